@@ -32,22 +32,22 @@ use Rattle.rx_session.specs.declared.follow.Follow.{Follow}
 use Rattle.rx_session.specs.declared.follow.Follow.TheVariants.{Taken, Back}
 use Rattle.rx_sink.specs.declared.line_sink.LineSink.{LineSink}
 use Rattle.rx_desk.specs.ClientSinks.{writer_of}
+use Rattle.rx_desk.specs.declared.begun_call.BegunCall.{BegunCall}
 use Rattle.rx_desk.specs.declared.client_sink.ClientSink.{ClientSink}
 use Rattle.rx_desk.specs.declared.client_sink.ClientSink.TheVariants.{Lines}
 use Rattle.rx_desk.specs.Responses.{response_of, has_joined, sink_back}
 use Rattle.rx_desk.specs.declared.joined.Joined.{Joined}
 use Rattle.rx_config.specs.declared.subject_config.SubjectConfig.{SubjectConfig}
 
--- the notes that a session's desk began to emit: the place of their subject, the events whose calls wait, and how many calls were
--- posted and have no answer yet
+-- the notes that a session's desk began to emit: the places of the subjects to which their calls were posted that have no answer yet,
+-- and the calls that wait
 pub record Queue : Type 0 where
-  pub subject : ℕ
-  pub events : List Event
-  pub sent : ℕ
+  pub posted : List ℕ
+  pub waiting : List BegunCall
 
--- the queue of a desk that never began a note
+-- the queue of a desk that has begun no note
 abbrev pub no_queue : Queue
-no_queue = record { subject = 0; events = []; sent = 0 }
+no_queue = record { posted = []; waiting = [] }
 
 -- a session's desk: the subjects, by whose names it finds them, the first request of an observer, where its moments come
 -- from, the desk that makes its calls, whom its last Join made, and what it began to emit
@@ -134,7 +134,7 @@ module _ {M W : Type 0} (tells : M → ℕ → M → Type 0) where
   abbrev pub EmitsAt : SessionView M (ClientSink W) → Note → Response → SessionView M (ClientSink W) → ℕ → Type 0
   EmitsAt before note response after subject =
       (answered : Result (Reply (ClientSink W)) (CallError (ClientSink W))) × CallsOnce before after subject (λ at. Emit note at) None answered
-      × (response ≡ response_of answered) × (after.joined ≡ before.joined) × (after.queue.events ≡ before.queue.events) × (after.queue.sent ≡ before.queue.sent)
+      × (response ≡ response_of answered) × (after.joined ≡ before.joined) × (after.queue ≡ before.queue)
 
   -- an Emit at the subject of a name; without such a subject no call is made
   abbrev pub emits : SessionView M (ClientSink W) → List ℕ → Note → Response → SessionView M (ClientSink W) → Type 0

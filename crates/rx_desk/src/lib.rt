@@ -13,6 +13,7 @@
 #![tactic(auto)]
 
 mod askers;
+mod begun_call;
 mod causes;
 mod client_sink;
 mod emitted_note;

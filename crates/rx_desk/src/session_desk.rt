@@ -2,10 +2,12 @@ ghost use Rattle.std.specs.Prelude.{◌≡◌, ◌+◌, ◌-◌, ◌^◌, ◌<�
 ghost use Rattle.rx_proto.specs.Reading.{same_word};
 ghost use Rattle.rx_desk.specs.SessionDesks.{followed, is_publish, joined_by, no_queue, place_of};
 
+use crate::begun_call::BegunCall;
 use crate::client_sink::ClientSink;
 use crate::joined::Joined;
 use crate::moments::Moments;
 use crate::responses::{has_joined, response_of, sink_back};
+use arrayvec::ArrayVec;
 use rx_config::{Config, SubjectConfig};
 use rx_heap::Heap;
 use rx_hub::SubjectLook;
@@ -18,8 +20,11 @@ use std::io::Write;
 use std::marker::Model;
 use std::sync::Wait;
 
+// How many calls may be posted that have no answer yet: as many as a session begins together.
+const MOST_POSTED: usize = 32;
+
 /// The desk of a session: it finds the subject of a name in the configuration, and makes one call to it for each command,
-/// with the moment at which the command was given. The call of what is begun is posted, so that several go to their subject together.
+/// with the moment at which the command was given. The call of what is begun is posted, so that several go to their subjects together.
 #[derive(Drop)]
 pub struct SessionDesk<'a, R, M: Drop, W: Write + Drop> {
     rt: &'a R,
@@ -30,24 +35,25 @@ pub struct SessionDesk<'a, R, M: Drop, W: Write + Drop> {
     calls: CallDesk<ClientSink<W>>,
     // Whom the last Join made.
     joined: Option<Joined>,
-    // The place of the subject of what was begun.
-    subject: usize,
-    // How many calls were posted that have no answer yet.
-    sent: u32,
-    // The event of what was begun last, where its call could not be posted: it goes alone, once the others have their answers.
-    waiting: Option<Event>,
+    // The places of the subjects to which calls were posted that have no answer yet, in their order.
+    posted: ArrayVec<usize, MOST_POSTED>,
+    // The call of what was begun last, where it could not be posted: it goes alone, once the others have their answers.
+    waiting: Option<BegunCall>,
 }
 
 impl<'a, R, M: Drop, W: Write + Drop> Model for SessionDesk<'a, R, M, W> {
-    ghost use Rattle.std.specs.Prelude.{◌+◌, ◌≡◌, length, option_to_list, vec_len};
+    ghost use Rattle.std.specs.Prelude.{◌+◌, ◌≡◌, ◌<◌, length, option_to_list, vec_len};
+    ghost use Rattle.std.specs.List.{All};
     ghost use Rattle.rx_desk.specs.declared.client_sink.ClientSink.{ClientSink};
     ghost use Rattle.rx_desk.specs.SessionDesks.{SessionView};
 
     ghost Value = { SessionView M (ClientSink W) };
 
-    ghost view = { λ d. record { subjects = d.config.now.subjects.items; window = d.config.now.window; moments = d.moments; calls = d.calls; joined = d.joined; queue = record { subject = d.subject; events = option_to_list d.waiting; sent = d.sent } } };
+    ghost view = { λ d. record { subjects = d.config.now.subjects.items; window = d.config.now.window; moments = d.moments; calls = d.calls; joined = d.joined; queue = record { posted = d.posted.items; waiting = option_to_list d.waiting } } };
 
-    ghost invariant = { λ d. length d.calls.ports + length d.calls.ended ≡ vec_len d.config.now.subjects };
+    ghost invariant = { λ d. (length d.calls.ports + length d.calls.ended ≡ vec_len d.config.now.subjects)
+        × All (λ place. place < vec_len d.config.now.subjects) d.posted.items
+        × All (λ call. call.place < vec_len d.config.now.subjects) (option_to_list d.waiting) };
 }
 
 impl<'a, R, M: Drop, W: Write + Drop> SessionDesk<'a, R, M, W> {
@@ -72,8 +78,7 @@ impl<'a, R, M: Drop, W: Write + Drop> SessionDesk<'a, R, M, W> {
             moments,
             calls,
             joined: None,
-            subject: 0,
-            sent: 0,
+            posted: ArrayVec::new(),
             waiting: None,
         }
     }
@@ -217,55 +222,57 @@ impl<'a, R: Wait, M: Moments + Drop, W: Write + Drop> SessionDesk<'a, R, M, W> {
     ghost use Rattle.rx_desk.specs.Queues.{GoesBehind, Waits, with_waiting};
     ghost use Rattle.rx_desk.specs.SessionDesks.{SessionView, emits};
 
-    // Whether a note for the subject at this place may be begun behind so many: these are just what is begun, for the same one, and
-    // each call of theirs was posted.
-    fn goes_behind(&self, place: usize, behind: u32) -> bool
-        ensures { IsTrue result → GoesBehind self.now place behind }
+    // Whether a note may be begun behind so many: these are just what is begun, each call of theirs was posted, and there is room for one
+    // more.
+    fn goes_behind(&self, behind: u32) -> bool
+        ensures { IsTrue result → GoesBehind self.now behind }
     {
         self.waiting.is_none()
-            && self.sent == behind
-            && behind < u32::MAX
-            && (behind == 0 || place == self.subject)
+            && self.posted.len() == behind as usize
+            && self.posted.len() < MOST_POSTED
     }
 
-    // Posts the call of what is begun by this event; where that can't be it waits.
-    fn post(&mut self, event: Event)
-        requires subject { self.old.queue.subject < length self.old.subjects }
-        requires none { self.old.queue.events ≡ [] }
-        requires room { self.old.queue.sent < 2 ^ 32 - 1 }
-        ensures { (base : SessionView M (ClientSink W)) (begun : List Asked) → Waits M.tells base begun (with_waiting event self.old) → Waits M.tells base begun self.new }
+    // Posts the call of what is begun; where that can't be it waits.
+    fn post(&mut self, call: BegunCall)
+        requires place { call.place < length self.old.subjects }
+        requires none { self.old.queue.waiting ≡ [] }
+        requires room { length self.old.queue.posted < 32 }
+        ensures { (base : SessionView M (ClientSink W)) (begun : List Asked) → Waits M.tells base begun (with_waiting call self.old) → Waits M.tells base begun self.new }
     {
-        match self.calls.post(self.rt, self.subject, event) {
-            Ok(()) => self.sent += 1,
-            Err(back) => drop(self.waiting.replace(back)),
+        let BegunCall { place, event } = call;
+        match self.calls.post(self.rt, place, event) {
+            Ok(()) => self.posted.push(place),
+            Err(event) => drop(self.waiting.replace(BegunCall { place, event })),
         }
     }
 
     // The response to the oldest call that was posted and has none.
     fn next_answer(&mut self) -> Response
-        requires subject { self.old.queue.subject < length self.old.subjects }
-        requires some { 0 < self.old.queue.sent }
+        requires { 0 < length self.old.queue.posted }
         ensures { (base : SessionView M (ClientSink W)) (first : Asked) (rest : List Asked) → Waits M.tells base (first ∷ rest) self.old
             → (after : SessionView M (ClientSink W)) × emits M.tells base first.name first.note result after × IsBehind (Waits M.tells) after rest self.new }
     {
-        let before = self.calls.tickets().saturating_sub(u64::from(self.sent));
-        self.sent -= 1;
+        let before = self
+            .calls
+            .tickets()
+            .saturating_sub(self.posted.len() as u64);
+        let place = self.posted.remove(0);
         let ticket = before.saturating_add(1);
-        let answered = self.calls.answer(self.rt, self.subject, ticket);
+        let answered = self.calls.answer(self.rt, place, ticket);
         response_of(&answered)
     }
 
     // Makes the call that waits, alone.
     fn call_waiting(&mut self) -> Response
-        requires subject { self.old.queue.subject < length self.old.subjects }
-        requires none { self.old.queue.sent ≡ 0 }
+        requires { self.old.queue.posted ≡ [] }
         ensures { (base : SessionView M (ClientSink W)) (first : Asked) (rest : List Asked) → Waits M.tells base (first ∷ rest) self.old
             → (after : SessionView M (ClientSink W)) × emits M.tells base first.name first.note result after × IsBehind (Waits M.tells) after rest self.new }
     {
-        let Some(event) = self.waiting.take() else {
+        let Some(call) = self.waiting.take() else {
             return Response::Done;
         };
-        let answered = self.calls.call(self.rt, self.subject, event, None);
+        let BegunCall { place, event } = call;
+        let answered = self.calls.call(self.rt, place, event, None);
         response_of(&answered)
     }
 }
@@ -303,31 +310,28 @@ impl<'a, R: Wait, M: Moments + Drop, W: Write + Drop> Desk<W> for SessionDesk<'a
         response_of(&answered)
     }
 
-    fn may_begin(&self, name: &Name) -> bool {
-        match self.config.subjects.get(self.subject) {
-            Some(subject) => is_named(subject, name),
-            None => false,
-        }
+    // Whatever subject it is for: the calls of several go side by side. For a name that no subject has, no text is made.
+    fn may_begin(&self, _name: &Name) -> bool {
+        self.waiting.is_none()
     }
 
     fn begin(&mut self, name: &Name, note: Note, behind: u32) -> Result<(), Note> {
         let Some(place) = self.place_of(name) else {
             return Err(note);
         };
-        if !self.goes_behind(place, behind) {
+        if !self.goes_behind(behind) {
             return Err(note);
         }
         let at = self.moments.now();
-        self.subject = place;
-        self.post(Event::Emit { note, at });
+        self.post(BegunCall {
+            place,
+            event: Event::Emit { note, at },
+        });
         Ok(())
     }
 
     fn answer(&mut self) -> Response {
-        if self.subject >= self.config.subjects.len() {
-            return Response::Done;
-        }
-        if self.sent == 0 {
+        if self.posted.is_empty() {
             return self.call_waiting();
         }
         self.next_answer()

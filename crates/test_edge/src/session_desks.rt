@@ -18,9 +18,9 @@ use std::process::Abort;
 use std::sync::{Arc, Mutex, Wait};
 use test_kit::Told;
 
-// One subject, which holds one observer, and one desk.
+// A subject that holds one observer, another one, and one desk.
 const ONE_PLACE: &[u8] =
-    b"[[subject]]\nname = \"s\"\nkind = \"publish\"\nobservers = 1\n[pool]\nworkers = 1\n";
+    b"[[subject]]\nname = \"s\"\nkind = \"publish\"\nobservers = 1\n[[subject]]\nname = \"t\"\nkind = \"publish\"\n[pool]\nworkers = 1\n";
 
 // Hands it out, so that who serves by it is proved without its bytes.
 fn one_place() -> &'static [u8] {
@@ -113,9 +113,10 @@ fn told_begin<R: Wait>(
 }
 
 // What a desk answers, step by step: to a Join at `j`, a dispose of the first observer at `d`, an item at `e`, one that is begun at
-// `b`, and the answer to one that was begun at `a`.
+// `b`, or for the other subject at `o`, and the answer to one that was begun at `a`.
 fn told_steps<R: Wait>(rt: &impl Abort, heap: &Heap, desk: &mut Session<R>, steps: &[u8]) -> Told {
     let name = Name::new(b"s").expect(rt, "a name");
+    let other = Name::new(b"t").expect(rt, "a name");
     let mut told = Told::new();
     let mut first = None;
     let mut behind = 0_u32;
@@ -125,9 +126,10 @@ fn told_steps<R: Wait>(rt: &impl Abort, heap: &Heap, desk: &mut Session<R>, step
             b'd' => told_dispose(desk, first),
             b'e' => sign_of(desk.emit(&name, item(rt, heap))),
             b'b' => told_begin(rt, heap, desk, &name, behind),
+            b'o' => told_begin(rt, heap, desk, &other, behind),
             _ => sign_of(desk.answer()),
         };
-        if *step == b'b' {
+        if *step == b'b' || *step == b'o' {
             behind = behind.saturating_add(1);
         }
         if first.is_none() {
@@ -138,12 +140,14 @@ fn told_steps<R: Wait>(rt: &impl Abort, heap: &Heap, desk: &mut Session<R>, step
     told
 }
 
-// The place of one who is disposed of is free; items are admitted, those too that are begun together.
-const STEPS: [(&str, &str); 4] = [
+// The place of one who is disposed of is free; items are admitted, those too that are begun together, for one subject or for two.
+const STEPS: [(&str, &str); 6] = [
     ("jj", "JF"),
     ("jjdj", "JF-J"),
     ("ee", ".."),
     ("bbbaaae", "bbb...."),
+    ("boboobaaaaaae", "bbbbbb......."),
+    ("oooobaaaaae", "bbbbb......"),
 ];
 
 #[test]

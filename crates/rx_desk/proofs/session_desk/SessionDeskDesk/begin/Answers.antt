@@ -10,6 +10,6 @@ returns g c =
     rw (← c.self.view_is)
     (λ base begun count is.
     c.post.ensures base _
-    (Waits-begun g.M.Moments.tells base _ _ begun c.args.name.now c.args.note c.args.behind c.in-Some.place goes
-    (record { at = c.now-at.result; told = c.now-at.ensures; named = sym named; subjects = refl; window = refl; calls = refl; joined = refl; subject = refl; events = refl; sent = refl })
+    (Waits-begun g.M.Moments.tells base _ _ begun c.args.name.now c.args.note c.args.behind _ goes
+    (record { at = c.now-at.result; told = c.now-at.ensures; event = refl; named = sym named; subjects = refl; window = refl; calls = refl; joined = refl; posted = refl; waiting = refl })
     count is))
