@@ -98,6 +98,11 @@ class Server:
             time.sleep(0.01)
         want("standard error", self.told(), wanted)
 
+    def resident(self):
+        """Returns how many bytes of memory its process has."""
+        with open(f"/proc/{self.process.pid}/status", encoding="ascii") as status:
+            return next(int(line.split()[1]) * 1024 for line in status if line.startswith("VmRSS"))
+
     def report(self):
         """Waits until it has ended well, and returns its report."""
         reported, _ = self.process.communicate(timeout=MOST)

@@ -6,7 +6,7 @@ import subprocess
 import time
 
 from cases import case
-from cases.ground import LONG, PUBLISH, UNHEARD, answered_to_quit, config, emit_all, emit_for, folder_with, joined, joins_at_last, run, served
+from cases.ground import LONG, PUBLISH, UNHEARD, answered_to_quit, config, emit_all, emit_for, folder_with, is_answered, joined, joins_at_last, run, served
 from serving import MOST, Peer, Server, want
 
 
@@ -279,6 +279,25 @@ def looks_past_the_path_of_events(rxline):
     with folder_with(config() + '[http]\nsocket = "no/such/h.sock"\n'):
         missing = b"no/such/h.sock: No such file or directory (os error 2)\n" + UNHEARD
         want("what is told of a folder that is missing", run(rxline, "check", "c.toml", "s.sock")[::2], (1, missing))
+
+
+# How many say nothing, and how many bytes of the server one of them may take: a session alone has more.
+QUIET = 400
+MOST_QUIET = 4_096
+
+
+@case
+def holds_a_session_for_who_says_nothing(rxline):
+    """Those who said nothing yet cost few bytes each, and are answered like any other once they say something."""
+    with served(rxline, config(f"connections = {QUIET + 2}", "workers = 1"), b"s joins 0 refused 0\n") as server:
+        is_answered(server, b"PUB s a\nQUIT\n", b"OK\nOK\n")
+        before = server.resident()
+        quiet = [Peer(server.path) for _ in range(QUIET)]
+        # The one worker takes connections in their order, so behind this one it has them all.
+        is_answered(server, b"PUB s a\nQUIT\n", b"OK\nOK\n")
+        want("that they cost little", (server.resident() - before) / QUIET < MOST_QUIET, True)
+        for peer in quiet:
+            answered_to_quit(peer, b"PUB s b")
 
 
 # More items than a socket and the budget take.

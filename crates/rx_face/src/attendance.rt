@@ -13,7 +13,7 @@ use crate::Doorway;
 use rx_desk::{EventDesk, Moments};
 use rx_exchange::Exchange;
 use rx_heap::Heap;
-use rx_workers::{Clients, Pause, Ready, Talk, admit, leave};
+use rx_workers::{Clients, Pause, Ready, Talk, admit, begin, leave};
 use std::io::{Read, Write};
 use std::marker::Model;
 use std::sync::Wait;
@@ -110,14 +110,13 @@ impl<'a, R: Wait, M: Moments + Drop, C: Read + Drop, W: Write + Drop> Attendance
         }
     }
 
-    // Gives a connection a place, where an exchange begins; or gives it up.
+    // Gives a connection a place; or gives it up.
     fn admit<P: Doorway<C, W>>(&mut self, connection: (C, W), doorway: &mut P)
         requires { AreWatched (P.watched doorway.old) self.old.clients }
         ensures goes { DoesSome M.tells C.remaining W.contents self.old self.new }
         ensures watched { AreWatched (P.watched doorway.new) self.new.clients }
     {
-        let exchange = Exchange::new(MAX_READS);
-        admit(self.heap, &mut self.clients, connection, exchange, doorway);
+        admit(&mut self.clients, connection, doorway);
     }
 
     // Serves the clients that are ready.
@@ -134,16 +133,31 @@ impl<'a, R: Wait, M: Moments + Drop, C: Read + Drop, W: Write + Drop> Attendance
         }
     }
 
-    // Serves the client that is ready: an exchange has a turn, and a follower who hung up is parted with.
+    // Serves the client that is ready: an exchange begins where it had yet to, and has a turn, and a follower who hung up is parted
+    // with.
     fn attend<P: Doorway<C, W>>(&mut self, ready: Ready, doorway: &mut P)
         requires { AreWatched (P.watched doorway.old) self.old.clients }
         ensures goes { DoesSome M.tells C.remaining W.contents self.old self.new }
         ensures watched { AreWatched (P.watched doorway.new) self.new.clients }
     {
+        self.start(ready.key, doorway);
         self.turn(ready.key, doorway);
         if ready.is_gone {
             self.part(ready.key, doorway);
         }
+    }
+
+    // The exchange of the connection at this place begins, where nothing came of it yet; or the connection is given up.
+    fn start<P: Doorway<C, W>>(&mut self, place: usize, doorway: &mut P)
+        requires { AreWatched (P.watched doorway.old) self.old.clients }
+        ensures goes { DoesSome M.tells C.remaining W.contents self.old self.new }
+        ensures watched { AreWatched (P.watched doorway.new) self.new.clients }
+    {
+        if !self.clients.is_silent(place) {
+            return;
+        }
+        let exchange = Exchange::new(MAX_READS);
+        begin(self.heap, &mut self.clients, place, exchange, doorway);
     }
 
     // The exchange at this place has a turn, if there is one. Where it goes on at once it is told by the next wait.

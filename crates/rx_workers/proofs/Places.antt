@@ -4,7 +4,7 @@ use Rattle.std.proofs.lemmas.List.{get_or-set_same, get_or-set_other}
 use Rattle.std.proofs.lemmas.List.Quantifiers.{position-Some}
 use Rattle.std.specs.List.{All}
 use Rattle.std.proofs.lemmas.List.Elements.{All-cons, All-head, All-nil, All-tail}
-use Rattle.rx_workers.specs.Clients.{AreSameClients, IsQuiet, IsTalk, Sets, client_at, first_vacant}
+use Rattle.rx_workers.specs.Clients.{AreSameClients, IsQuiet, IsTalk, IsUnserved, Sets, client_at, first_vacant}
 use Rattle.rx_workers.specs.declared.worker.client.Client.{Client}
 use Rattle.rx_workers.specs.declared.worker.client.Client.TheVariants.{Talks}
 use Rattle.rx_workers.specs.declared.worker.client.Talk.{Talk}
@@ -53,14 +53,18 @@ module _ {C W T : Type 0} where
   pub is_talk : (client : Option (Client C W T)) (talk : Talk C W T) → client ≡ Some (Talks talk) → IsTalk client
   is_talk client talk is = subst (λ (c : Option (Client C W T)). IsTalk c) (sym is) tt
 
-  -- where no session is under way at any of these places, none is at any place
-  pub quiet-places : (clients : List (Option (Client C W T))) → All (λ slot. ¬ IsTalk slot) clients → IsQuiet clients
+  -- and is not served to its end yet
+  pub talk_unserved : (client : Option (Client C W T)) (talk : Talk C W T) → client ≡ Some (Talks talk) → IsUnserved client
+  talk_unserved client talk is = subst (λ (c : Option (Client C W T)). IsUnserved c) (sym is) tt
+
+  -- where all is served at these places, it is at any place
+  pub quiet-places : (clients : List (Option (Client C W T))) → All (λ slot. ¬ IsUnserved slot) clients → IsQuiet clients
   quiet-places [] none zero = λ talks. talks
   quiet-places [] none (suc place) = λ talks. talks
-  quiet-places (client ∷ clients) none zero = All-head (λ (slot : Option (Client C W T)). ¬ IsTalk slot) client clients none
-  quiet-places (client ∷ clients) none (suc place) = quiet-places clients (All-tail (λ (slot : Option (Client C W T)). ¬ IsTalk slot) client clients none) place
+  quiet-places (client ∷ clients) none zero = All-head (λ (slot : Option (Client C W T)). ¬ IsUnserved slot) client clients none
+  quiet-places (client ∷ clients) none (suc place) = quiet-places clients (All-tail (λ (slot : Option (Client C W T)). ¬ IsUnserved slot) client clients none) place
 
-  pub quiet-each : (clients : List (Option (Client C W T))) → IsQuiet clients → All (λ slot. ¬ IsTalk slot) clients
-  quiet-each [] quiet = All-nil (λ (slot : Option (Client C W T)). ¬ IsTalk slot)
+  pub quiet-each : (clients : List (Option (Client C W T))) → IsQuiet clients → All (λ slot. ¬ IsUnserved slot) clients
+  quiet-each [] quiet = All-nil (λ (slot : Option (Client C W T)). ¬ IsUnserved slot)
   quiet-each (client ∷ clients) quiet =
-      All-cons (λ (slot : Option (Client C W T)). ¬ IsTalk slot) client clients (quiet zero) (quiet-each clients (λ place. quiet (suc place)))
+      All-cons (λ (slot : Option (Client C W T)). ¬ IsUnserved slot) client clients (quiet zero) (quiet-each clients (λ place. quiet (suc place)))

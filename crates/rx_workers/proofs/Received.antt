@@ -7,7 +7,7 @@ use Rattle.rx_mailbox.specs.Letters.{letter, share, posts}
 use Rattle.rx_mailbox.specs.declared.letter.Letter.{Letter}
 use Rattle.rx_mailbox.specs.declared.letter.Post.{Post}
 use Rattle.rx_mailbox.specs.declared.letter.Post.TheVariants.{Body, Bye}
-use Rattle.rx_workers.specs.Working.{State, Deed, Admitted, GivenUp, Dismissed, Abandoned, Turned, Parted, came, Works}
+use Rattle.rx_workers.specs.Working.{State, Deed, Admitted, GivenUp, Dismissed, Abandoned, Begun, LetGo, Turned, Parted, came, Works}
 
 module _ {X : Type 0} where
   -- the body of a letter, if it has one
@@ -90,5 +90,9 @@ module _ {M C W : Type 0} (tells : M → ℕ → M → Type 0) (remaining : C �
       goes_with deeds Dismissed [] before.inbox w.0.inbox after.inbox Bye w.2.0.from refl (sym (append-nil (came deeds))) w.2.0.of_box w.2.0.inbox (works_came deeds before w.0 w.1)
   works_came (Abandoned ∷ deeds) before after w =
       goes_same Abandoned deeds before.inbox w.0.inbox after.inbox refl (ap (λ (s : State M C W). s.inbox) w.2) (works_came deeds before w.0 w.1)
+  works_came (Begun x place ∷ deeds) before after w =
+      goes_same (Begun x place) deeds before.inbox w.0.inbox after.inbox refl (ap (λ (s : State M C W). s.inbox) w.2.1) (works_came deeds before w.0 w.1)
+  works_came (LetGo x place ∷ deeds) before after w =
+      goes_same (LetGo x place) deeds before.inbox w.0.inbox after.inbox refl (ap (λ (s : State M C W). s.inbox) w.2.1) (works_came deeds before w.0 w.1)
   works_came (Turned place ∷ deeds) before after w = goes_same (Turned place) deeds before.inbox w.0.inbox after.inbox refl w.2.inbox (works_came deeds before w.0 w.1)
   works_came (Parted place ∷ deeds) before after w = goes_same (Parted place) deeds before.inbox w.0.inbox after.inbox refl w.2.3 (works_came deeds before w.0 w.1)

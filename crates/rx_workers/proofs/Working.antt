@@ -3,8 +3,9 @@ use Rattle.std.proofs.Common.{◌≡◌, ◌⊎◌, ℕ, ◌+◌, ◌-◌, ◌^�
 use Rattle.std.specs.List.{All, Contains}
 use Rattle.std.proofs.lemmas.Bool.{cases_eq}
 use Rattle.std.proofs.lemmas.List.{length-append}
-use Rattle.std.proofs.lemmas.List.Elements.{All-cons, All-nil, All-push, All-weaker, Contains-append_right}
+use Rattle.std.proofs.lemmas.List.Elements.{All-cons, All-nil, All-push, All-weaker, Contains-append_left, Contains-append_right, Contains-push}
 use Rattle.rx_mailbox.specs.Boxes.{Incoming}
+use Rattle.rx_mailbox.specs.declared.letter.Post.TheVariants.{Body}
 use Rattle.rx_pump.specs.Desks.{DeskView}
 use Rattle.rx_pump.specs.Pumps.{counted}
 use Rattle.rx_pump.proofs.Pumping.{counted-more}
@@ -25,10 +26,25 @@ use Rattle.rx_workers.specs.declared.worker.client.Talk.{Talk}
 use Rattle.rx_desk.specs.declared.joined.Joined.{Joined}
 use Rattle.rx_workers.specs.declared.worker.worker_end.WorkerEnd.{WorkerEnd}
 use Rattle.rx_workers.specs.Workers.{worker_at_end}
-use Rattle.rx_workers.specs.Working.{WorkerView, worker, State, state, Deed, Admitted, GivenUp, Dismissed, Abandoned, Turned, Parted, admitted, HasArrivals, HasConnection, HasNoConnection, HasTurn, HasTurnBehind, HasTurnTo, HasTurns, IsConnection, PartsAt, ServesAt, Does, Works, DoesSome, IsServed, HasWorked, calls}
-use Rattle.rx_workers.specs.Talks.{Begins, IsTalkOf, Leaves, goes_at_once}
-use Rattle.rx_workers.proofs.Talks.{no_talk, one_talk, talks_or_not}
+use Rattle.rx_workers.specs.Working.{WorkerView, worker, State, state, Deed, Admitted, GivenUp, Dismissed, Abandoned, Begun, LetGo, Turned, Parted, came, begun, given_up, HasArrivals, HasConnection, HasNoConnection, HasTurn, HasTurnBehind, HasTurnTo, HasTurns, IsConnection, IsMet, PartsAt, Receives, ServesAt, StartsAt, Does, Works, DoesSome, IsServed, HasWorked, calls}
+use Rattle.rx_workers.specs.Talks.{Admits, Begins, IsTalkOf, IsWaiting, Leaves, goes_at_once, silent}
+use Rattle.rx_workers.proofs.Talks.{is_unserved, no_talk, one_talk, talks_or_not, waits_beside, waits_or, waits_same}
+use Rattle.rx_workers.proofs.Places.{talk_unserved}
 use Rattle.rx_workers.proofs.Sessions.{keeps-equal, keeps-then, turn_keeps}
+
+-- a connection that is met by some deeds is met by one more
+met_by : {X : Type 0} (deed : Deed X) (deeds : List (Deed X)) (x : X) → IsMet deeds x → IsMet (deed ∷ deeds) x
+met_by (Admitted y place) deeds x met = met
+met_by (GivenUp y) deeds x (inl began) = inl began
+met_by (GivenUp y) deeds x (inr given) = inr (Contains-append_left (given_up deeds) (y ∷ []) x given)
+met_by Dismissed deeds x met = met
+met_by Abandoned deeds x met = met
+met_by (Begun y place) deeds x (inl began) = inl (Contains-append_left (begun deeds) (y ∷ []) x began)
+met_by (Begun y place) deeds x (inr given) = inr given
+met_by (LetGo y place) deeds x (inl began) = inl began
+met_by (LetGo y place) deeds x (inr given) = inr (Contains-append_left (given_up deeds) (y ∷ []) x given)
+met_by (Turned place) deeds x met = met
+met_by (Parted place) deeds x met = met
 
 module _ {M C W : Type 0} (tells : M → ℕ → M → Type 0) (remaining : C → Option (List ℕ)) (contents : W → Option (List ℕ)) where
   -- nothing was done
@@ -53,6 +69,12 @@ module _ {M C W : Type 0} (tells : M → ℕ → M → Type 0) (remaining : C �
   -- some came, and nothing else
   abbrev pub HaveCome : State M C W → State M C W → Type 0
   HaveCome before after = (deeds : List (Deed (C × W))) × All IsConnection deeds × Works tells remaining contents deeds before after
+
+  -- one did
+  pub came-one : (place : Option ℕ) (connection : C × W) (before after : State M C W) → Receives tells remaining contents (Body connection) before after
+      → Admits place connection before.clients after.clients → after.sessions ≡ before.sessions → after.is_open ≡ before.is_open → HasConnection tells remaining contents before after
+  came-one None connection before after received admits sessions is_open = (GivenUp connection, tt, (received, admits, sessions, is_open))
+  came-one (Some place) connection before after received admits sessions is_open = (Admitted connection place, tt, (received, admits, sessions, is_open))
 
   pub come-none : (s : State M C W) → HaveCome s s
   come-none s = ([], All-nil IsConnection, refl)
@@ -107,11 +129,18 @@ module _ {M C W : Type 0} (tells : M → ℕ → M → Type 0) (remaining : C �
   parts-goes place before after (inl did) = DoesSome-one (Parted place) before after did
   parts-goes place before after (inr (none, same)) = ([], same)
 
+  starts-goes : (place : ℕ) (before after : State M C W) → StartsAt tells remaining contents place before after → DoesSome tells remaining contents before after
+  starts-goes place before after (inl (connection, inl began)) = DoesSome-one (Begun connection place) before after began
+  starts-goes place before after (inl (connection, inr gone)) = DoesSome-one (LetGo connection place) before after gone
+  starts-goes place before after (inr (none, same)) = ([], same)
+
   pub Serves-goes : (place : ℕ) (is_gone : Bool) (before after : State M C W) → ServesAt tells remaining contents place is_gone before after
       → DoesSome tells remaining contents before after
-  Serves-goes place false before after served = turns-goes place before after served
+  Serves-goes place false before after served =
+      DoesSome-then before served.0 after (starts-goes place before served.0 served.1) (turns-goes place served.0 after served.2)
   Serves-goes place true before after served =
-      DoesSome-then before served.0 after (turns-goes place before served.0 served.1) (parts-goes place served.0 after served.2)
+      DoesSome-then before served.0 after (starts-goes place before served.0 served.2)
+      (DoesSome-then served.0 served.1 after (turns-goes place served.0 served.1 served.3) (parts-goes place served.1 after served.4))
 
   -- WHAT A DEED KEEPS OF THE DESK
   does_keeps : (deed : Deed (C × W)) (before after : State M C W) → Does tells remaining contents deed before after → KeepsSession before.session after.session
@@ -119,6 +148,8 @@ module _ {M C W : Type 0} (tells : M → ℕ → M → Type 0) (remaining : C �
   does_keeps (GivenUp connection) before after d = keeps-equal before.session after.session d.0.session
   does_keeps Dismissed before after d = keeps-equal before.session after.session d.0.session
   does_keeps Abandoned before after d = keeps-equal before.session after.session (ap (λ (s : State M C W). s.session) d)
+  does_keeps (Begun connection place) before after d = keeps-equal before.session after.session (ap (λ (s : State M C W). s.session) d.1)
+  does_keeps (LetGo connection place) before after d = keeps-equal before.session after.session (ap (λ (s : State M C W). s.session) d.1)
   does_keeps (Turned place) before after d = turn_keeps tells remaining contents d.result d.talk d.reader d.session before.session after.session d.turn
   does_keeps (Parted place) before after d = d.1.kept
 
@@ -129,14 +160,16 @@ module _ {M C W : Type 0} (tells : M → ℕ → M → Type 0) (remaining : C �
 
   -- HOW MANY SESSIONS BEGAN
   works_count : (deeds : List (Deed (C × W))) (before after : State M C W) → Works tells remaining contents deeds before after → before.sessions ≡ 0
-      → after.sessions ≡ counted (length (admitted deeds))
+      → after.sessions ≡ counted (length (begun deeds))
   works_count [] before after w none = ap (λ (s : State M C W). s.sessions) w ∙ none
-  works_count (Admitted x place ∷ deeds) before after w none =
-      w.2.2 ∙ ap (λ n. min (n + 1) (2 ^ 64 - 1)) (works_count deeds before w.0 w.1 none) ∙ counted-more (length (admitted deeds))
-      ∙ ap counted (sym (length-append (admitted deeds) (x ∷ [])))
+  works_count (Admitted x place ∷ deeds) before after w none = w.2.2 ∙ works_count deeds before w.0 w.1 none
   works_count (GivenUp x ∷ deeds) before after w none = w.2.2 ∙ works_count deeds before w.0 w.1 none
   works_count (Dismissed ∷ deeds) before after w none = w.2.2 ∙ works_count deeds before w.0 w.1 none
   works_count (Abandoned ∷ deeds) before after w none = ap (λ (s : State M C W). s.sessions) w.2 ∙ works_count deeds before w.0 w.1 none
+  works_count (Begun x place ∷ deeds) before after w none =
+      ap (λ (s : State M C W). s.sessions) w.2.1 ∙ ap (λ n. min (n + 1) (2 ^ 64 - 1)) (works_count deeds before w.0 w.1 none) ∙ counted-more (length (begun deeds))
+      ∙ ap counted (sym (length-append (begun deeds) (x ∷ [])))
+  works_count (LetGo x place ∷ deeds) before after w none = ap (λ (s : State M C W). s.sessions) w.2.1 ∙ works_count deeds before w.0 w.1 none
   works_count (Turned place ∷ deeds) before after w none = w.2.sessions ∙ works_count deeds before w.0 w.1 none
   works_count (Parted place ∷ deeds) before after w none = w.2.4 ∙ works_count deeds before w.0 w.1 none
 
@@ -159,9 +192,9 @@ module _ {M C W : Type 0} (tells : M → ℕ → M → Type 0) (remaining : C �
   abbrev IsKnown : List (Option (Client C W OpenSession)) → C × W → Type 0
   IsKnown clients connection = IsThere clients connection ⊎ IsServed tells remaining contents connection
 
-  -- a connection that was given a place
+  -- a connection whose session began
   known_new : (place : ℕ) (before after : List (Option (Client C W OpenSession))) (connection : C × W) (talk : Talk C W OpenSession) (desk : SessionView M (ClientSink W))
-      → Begins IsNew connection talk → Sets place before after None (Some (Talks talk)) → IsKnown after connection
+      → Begins IsNew connection talk → Sets place before after (silent connection) (Some (Talks talk)) → IsKnown after connection
   known_new place before after connection talk desk begins sets =
       let p = among (calls tells remaining contents) in
       let fresh = Sitting-new p talk.session.value desk talk.writer (remaining talk.reader) begins.is_new in
@@ -248,11 +281,13 @@ module _ {M C W : Type 0} (tells : M → ℕ → M → Type 0) (remaining : C �
   -- one deed more
   known_by : (deed : Deed (C × W)) (before after : State M C W) (connection : C × W) → Does tells remaining contents deed before after
       → IsKnown before.clients connection → IsKnown after.clients connection
-  known_by (Admitted x place) before after connection d known = known_beside place before.clients after.clients None (Some (Talks d.1.0)) connection d.1.2 (λ no. no) known
+  known_by (Admitted x place) before after connection d known = known_beside place before.clients after.clients None (silent x) connection d.1 (λ no. no) known
   known_by (GivenUp x) before after connection d known = known_same before.clients after.clients connection d.1 known
   known_by Dismissed before after connection d known = known_same before.clients after.clients connection d.1 known
   known_by Abandoned before after connection d known =
       known_same before.clients after.clients connection (λ place. ap (λ (s : State M C W). client_at place s.clients) d) known
+  known_by (Begun x place) before after connection d known = known_beside place before.clients after.clients (silent x) (Some (Talks d.0.0)) connection d.0.2 (λ no. no) known
+  known_by (LetGo x place) before after connection d known = known_beside place before.clients after.clients (silent x) None connection d.0 (λ no. no) known
   known_by (Turned place) before after connection d known = known_turn place before after connection d known
   known_by (Parted place) before after connection d known = known_beside place before.clients after.clients (Some (Follows d.0)) None connection d.2 (λ no. no) known
 
@@ -261,25 +296,80 @@ module _ {M C W : Type 0} (tells : M → ℕ → M → Type 0) (remaining : C �
       → All (IsKnown before.clients) connections → All (IsKnown after.clients) connections
   all_by deed before after connections d known = All-weaker (IsKnown before.clients) (IsKnown after.clients) (λ c is. known_by deed before after c d is) connections known
 
-  -- each connection that was given a place is known
-  works_known : (deeds : List (Deed (C × W))) (before after : State M C W) → Works tells remaining contents deeds before after → All (IsKnown after.clients) (admitted deeds)
+  -- each connection whose session began is known
+  works_known : (deeds : List (Deed (C × W))) (before after : State M C W) → Works tells remaining contents deeds before after → All (IsKnown after.clients) (begun deeds)
   works_known [] before after w = All-nil (IsKnown after.clients)
-  works_known (Admitted x place ∷ deeds) before after w =
-      All-push (IsKnown after.clients) (admitted deeds) x (all_by (Admitted x place) w.0 after (admitted deeds) w.2 (works_known deeds before w.0 w.1))
-      (known_new place w.0.clients after.clients x w.2.1.0 w.0.session w.2.1.1 w.2.1.2)
-  works_known (GivenUp x ∷ deeds) before after w = all_by (GivenUp x) w.0 after (admitted deeds) w.2 (works_known deeds before w.0 w.1)
-  works_known (Dismissed ∷ deeds) before after w = all_by Dismissed w.0 after (admitted deeds) w.2 (works_known deeds before w.0 w.1)
-  works_known (Abandoned ∷ deeds) before after w = all_by Abandoned w.0 after (admitted deeds) w.2 (works_known deeds before w.0 w.1)
-  works_known (Turned place ∷ deeds) before after w = all_by (Turned place) w.0 after (admitted deeds) w.2 (works_known deeds before w.0 w.1)
-  works_known (Parted place ∷ deeds) before after w = all_by (Parted place) w.0 after (admitted deeds) w.2 (works_known deeds before w.0 w.1)
+  works_known (Admitted x place ∷ deeds) before after w = all_by (Admitted x place) w.0 after (begun deeds) w.2 (works_known deeds before w.0 w.1)
+  works_known (GivenUp x ∷ deeds) before after w = all_by (GivenUp x) w.0 after (begun deeds) w.2 (works_known deeds before w.0 w.1)
+  works_known (Dismissed ∷ deeds) before after w = all_by Dismissed w.0 after (begun deeds) w.2 (works_known deeds before w.0 w.1)
+  works_known (Abandoned ∷ deeds) before after w = all_by Abandoned w.0 after (begun deeds) w.2 (works_known deeds before w.0 w.1)
+  works_known (Begun x place ∷ deeds) before after w =
+      All-push (IsKnown after.clients) (begun deeds) x (all_by (Begun x place) w.0 after (begun deeds) w.2 (works_known deeds before w.0 w.1))
+      (known_new place w.0.clients after.clients x w.2.0.0 w.0.session w.2.0.1 w.2.0.2)
+  works_known (LetGo x place ∷ deeds) before after w = all_by (LetGo x place) w.0 after (begun deeds) w.2 (works_known deeds before w.0 w.1)
+  works_known (Turned place ∷ deeds) before after w = all_by (Turned place) w.0 after (begun deeds) w.2 (works_known deeds before w.0 w.1)
+  works_known (Parted place ∷ deeds) before after w = all_by (Parted place) w.0 after (begun deeds) w.2 (works_known deeds before w.0 w.1)
 
   -- where no session is under way a connection that is known was served
   known_served : (clients : List (Option (Client C W OpenSession))) (connection : C × W) → IsQuiet clients → IsKnown clients connection → IsServed tells remaining contents connection
   known_served clients connection quiet (inr served) = served
-  known_served clients connection quiet (inl s) = absurd (no_talk (client_at s.place clients) (client_at s.place clients) s.talk refl (quiet s.place) s.there)
+  known_served clients connection quiet (inl s) = absurd (quiet s.place (talk_unserved (client_at s.place clients) s.talk s.there))
 
   all_served : (clients : List (Option (Client C W OpenSession))) (connections : List (C × W)) → IsQuiet clients → All (IsKnown clients) connections → All (IsServed tells remaining contents) connections
   all_served clients connections quiet known = All-weaker (IsKnown clients) (IsServed tells remaining contents) (λ c is. known_served clients c quiet is) connections known
+
+  -- EACH CONNECTION THAT CAME IS MET
+
+  -- or nothing came of it yet
+  abbrev IsHad : List (Deed (C × W)) → List (Option (Client C W OpenSession)) → C × W → Type 0
+  IsHad deeds clients connection = IsWaiting clients connection ⊎ IsMet deeds connection
+
+  -- one deed more
+  had_by : (deed : Deed (C × W)) (deeds : List (Deed (C × W))) (before after : State M C W) (connection : C × W) → Does tells remaining contents deed before after
+      → IsHad deeds before.clients connection → IsHad (deed ∷ deeds) after.clients connection
+  had_by deed deeds before after connection d (inr met) = inr (met_by deed deeds connection met)
+  had_by (Admitted x place) deeds before after connection d (inl waits) = inl (waits_beside place before.clients after.clients None (silent x) connection d.1 (λ no. no) waits)
+  had_by (GivenUp x) deeds before after connection d (inl waits) = inl (waits_same before.clients after.clients connection d.1 waits)
+  had_by Dismissed deeds before after connection d (inl waits) = inl (waits_same before.clients after.clients connection d.1 waits)
+  had_by Abandoned deeds before after connection d (inl waits) =
+      inl (waits_same before.clients after.clients connection (λ place. ap (λ (s : State M C W). client_at place s.clients) d) waits)
+  had_by (Begun x place) deeds before after connection d (inl waits) =
+      waits_or (IsMet (Begun x place ∷ deeds)) place before.clients after.clients x (Some (Talks d.0.0)) connection d.0.2 (inl (Contains-push (begun deeds) x)) waits
+  had_by (LetGo x place) deeds before after connection d (inl waits) =
+      waits_or (IsMet (LetGo x place ∷ deeds)) place before.clients after.clients x None connection d.0 (inr (Contains-push (given_up deeds) x)) waits
+  had_by (Turned place) deeds before after connection d (inl waits) =
+      inl (waits_beside place before.clients after.clients (Some (Talks d.talk)) d.left connection d.sets (λ no. no) waits)
+  had_by (Parted place) deeds before after connection d (inl waits) =
+      inl (waits_beside place before.clients after.clients (Some (Follows d.0)) None connection d.2 (λ no. no) waits)
+
+  -- so all
+  all_had : (deed : Deed (C × W)) (deeds : List (Deed (C × W))) (before after : State M C W) (connections : List (C × W)) → Does tells remaining contents deed before after
+      → All (IsHad deeds before.clients) connections → All (IsHad (deed ∷ deeds) after.clients) connections
+  all_had deed deeds before after connections d had =
+      All-weaker (IsHad deeds before.clients) (IsHad (deed ∷ deeds) after.clients) (λ c is. had_by deed deeds before after c d is) connections had
+
+  works_had : (deeds : List (Deed (C × W))) (before after : State M C W) → Works tells remaining contents deeds before after → All (IsHad deeds after.clients) (came deeds)
+  works_had [] before after w = All-nil (IsHad [] after.clients)
+  works_had (Admitted x place ∷ deeds) before after w =
+      All-push (IsHad (Admitted x place ∷ deeds) after.clients) (came deeds) x (all_had (Admitted x place) deeds w.0 after (came deeds) w.2 (works_had deeds before w.0 w.1))
+      (inl (place, w.2.1.is_there))
+  works_had (GivenUp x ∷ deeds) before after w =
+      All-push (IsHad (GivenUp x ∷ deeds) after.clients) (came deeds) x (all_had (GivenUp x) deeds w.0 after (came deeds) w.2 (works_had deeds before w.0 w.1))
+      (inr (inr (Contains-push (given_up deeds) x)))
+  works_had (Dismissed ∷ deeds) before after w = all_had Dismissed deeds w.0 after (came deeds) w.2 (works_had deeds before w.0 w.1)
+  works_had (Abandoned ∷ deeds) before after w = all_had Abandoned deeds w.0 after (came deeds) w.2 (works_had deeds before w.0 w.1)
+  works_had (Begun x place ∷ deeds) before after w = all_had (Begun x place) deeds w.0 after (came deeds) w.2 (works_had deeds before w.0 w.1)
+  works_had (LetGo x place ∷ deeds) before after w = all_had (LetGo x place) deeds w.0 after (came deeds) w.2 (works_had deeds before w.0 w.1)
+  works_had (Turned place ∷ deeds) before after w = all_had (Turned place) deeds w.0 after (came deeds) w.2 (works_had deeds before w.0 w.1)
+  works_had (Parted place ∷ deeds) before after w = all_had (Parted place) deeds w.0 after (came deeds) w.2 (works_had deeds before w.0 w.1)
+
+  -- where nobody waits
+  had_met : (deeds : List (Deed (C × W))) (clients : List (Option (Client C W OpenSession))) (connection : C × W) → IsQuiet clients → IsHad deeds clients connection → IsMet deeds connection
+  had_met deeds clients connection quiet (inr met) = met
+  had_met deeds clients connection quiet (inl waits) = absurd (quiet waits.0 (is_unserved (client_at waits.0 clients) connection waits.1))
+
+  all_met : (deeds : List (Deed (C × W))) (clients : List (Option (Client C W OpenSession))) (connections : List (C × W)) → IsQuiet clients → All (IsHad deeds clients) connections → All (IsMet deeds) connections
+  all_met deeds clients connections quiet had = All-weaker (IsHad deeds clients) (IsMet deeds) (λ c is. had_met deeds clients c quiet is) connections had
 
   -- ONCE CLOSED, BY ONE OF TWO DEEDS
 
@@ -297,6 +387,8 @@ module _ {M C W : Type 0} (tells : M → ℕ → M → Type 0) (remaining : C �
   works_over (GivenUp x ∷ deeds) before after w was is = earlier (GivenUp x) deeds (works_over deeds before w.0 w.1 was (sym w.2.3 ∙ is))
   works_over (Dismissed ∷ deeds) before after w was is = inl (0, omega arith, refl)
   works_over (Abandoned ∷ deeds) before after w was is = inr (0, omega arith, refl)
+  works_over (Begun x place ∷ deeds) before after w was is = earlier (Begun x place) deeds (works_over deeds before w.0 w.1 was (sym (ap (λ (s : State M C W). s.is_open) w.2.1) ∙ is))
+  works_over (LetGo x place ∷ deeds) before after w was is = earlier (LetGo x place) deeds (works_over deeds before w.0 w.1 was (sym (ap (λ (s : State M C W). s.is_open) w.2.1) ∙ is))
   works_over (Turned place ∷ deeds) before after w was is = earlier (Turned place) deeds (works_over deeds before w.0 w.1 was (sym w.2.is_open ∙ is))
   works_over (Parted place ∷ deeds) before after w was is = earlier (Parted place) deeds (works_over deeds before w.0 w.1 was (sym w.2.5 ∙ is))
 
@@ -317,7 +409,8 @@ module _ {M C W : Type 0} (tells : M → ℕ → M → Type 0) (remaining : C �
         works = subst (λ (s : State M C W). Works tells remaining contents goes.0 before s) (state_closed after closed) goes.1;
         is_over = works_over goes.0 before after goes.1 refl closed;
         is_quiet = quiet;
-        served = all_served after.clients (admitted goes.0) quiet (works_known goes.0 before after goes.1);
+        met = all_met goes.0 after.clients (came goes.0) quiet (works_had goes.0 before after goes.1);
+        served = all_served after.clients (begun goes.0) quiet (works_known goes.0 before after goes.1);
         kept = works_keeps goes.0 before after goes.1;
         sessions_are = works_count goes.0 before after goes.1 refl;
       }

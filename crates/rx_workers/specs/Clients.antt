@@ -2,7 +2,7 @@
 use Rattle.std.specs.Prelude.{◌≡◌, ◌≢◌, ℕ, List, Option, None, Some, is_none, slice_index_or}
 use Rattle.std.specs.List.{position}
 use Rattle.rx_workers.specs.declared.worker.client.Client.{Client}
-use Rattle.rx_workers.specs.declared.worker.client.Client.TheVariants.{Talks, Follows}
+use Rattle.rx_workers.specs.declared.worker.client.Client.TheVariants.{Silent, Talks, Follows}
 
 module _ {C W T : Type 0} where
   -- who is at a place; at one that is vacant, or that there isn't, nobody
@@ -23,18 +23,34 @@ module _ {C W T : Type 0} where
     pub is_there : client_at place after ≡ is
     pub others : (other : ℕ) → other ≢ place → client_at other after ≡ client_at other before
 
+  -- a connection of which nothing came yet
+  abbrev pub IsSilent : Option (Client C W T) → Type 0
+  IsSilent None = ⊥
+  IsSilent (Some (Silent reader writer)) = Unit {0}
+  IsSilent (Some (Talks talk)) = ⊥
+  IsSilent (Some (Follows follower)) = ⊥
+
   -- a session is under way
   abbrev pub IsTalk : Option (Client C W T) → Type 0
   IsTalk None = ⊥
+  IsTalk (Some (Silent reader writer)) = ⊥
   IsTalk (Some (Talks talk)) = Unit {0}
   IsTalk (Some (Follows follower)) = ⊥
 
   -- an observer joined, who is watched
   abbrev pub IsFollower : Option (Client C W T) → Type 0
   IsFollower None = ⊥
+  IsFollower (Some (Silent reader writer)) = ⊥
   IsFollower (Some (Talks talk)) = ⊥
   IsFollower (Some (Follows follower)) = Unit {0}
 
-  -- no session is, at any place
+  -- it isn't served to its end yet: its session is under way, or has yet to begin
+  abbrev pub IsUnserved : Option (Client C W T) → Type 0
+  IsUnserved None = ⊥
+  IsUnserved (Some (Silent reader writer)) = Unit {0}
+  IsUnserved (Some (Talks talk)) = Unit {0}
+  IsUnserved (Some (Follows follower)) = ⊥
+
+  -- no session is under way or has yet to begin, at any place
   abbrev pub IsQuiet : List (Option (Client C W T)) → Type 0
-  IsQuiet clients = (place : ℕ) → ¬ IsTalk (client_at place clients)
+  IsQuiet clients = (place : ℕ) → ¬ IsUnserved (client_at place clients)

@@ -1,14 +1,14 @@
--- A session of any kind over the halves of its connection, among the clients of a worker: how it begins, and what a turn of it leaves
--- (this project's own rule).
+-- A session of any kind over the halves of its connection, among the clients of a worker: how the connection comes, how the session
+-- begins, and what a turn of it leaves (this project's own rule).
 use Rattle.std.specs.Prelude.{◌≡◌, ℕ, Bool, true, false, List, Option, None, Some, option_map}
 use Rattle.rx_desk.specs.declared.joined.Joined.{Joined}
 use Rattle.rx_session.specs.declared.session_end.SessionEnd.{SessionEnd}
 use Rattle.rx_session.specs.declared.session_end.SessionEnd.TheVariants as ends
 use Rattle.rx_session.specs.declared.turn.Turn.{Turn}
 use Rattle.rx_session.specs.declared.turn.Turn.TheVariants.{Again, Waits, Stuck, Over}
-use Rattle.rx_workers.specs.Clients.{AreSameClients, Sets}
+use Rattle.rx_workers.specs.Clients.{AreSameClients, Sets, client_at}
 use Rattle.rx_workers.specs.declared.worker.client.Client.{Client}
-use Rattle.rx_workers.specs.declared.worker.client.Client.TheVariants.{Talks, Follows}
+use Rattle.rx_workers.specs.declared.worker.client.Client.TheVariants.{Silent, Talks, Follows}
 use Rattle.rx_workers.specs.declared.worker.client.Follower.{Follower}
 use Rattle.rx_workers.specs.declared.worker.client.Talk.{Talk}
 use Rattle.rx_workers.specs.declared.readiness.Aim.TheVariants.{Bytes}
@@ -21,6 +21,19 @@ goes_at_once (Stuck writer) = false
 goes_at_once (Over end back) = false
 
 module _ {C W T : Type 0} where
+  -- a connection of which nothing came yet
+  abbrev pub silent : C × W → Option (Client C W T)
+  silent connection = Some (Silent connection.0 connection.1)
+
+  -- such a connection has a place
+  abbrev pub IsWaiting : List (Option (Client C W T)) → C × W → Type 0
+  IsWaiting clients connection = (place : ℕ) × (client_at place clients ≡ silent connection)
+
+  -- a connection was given this place, which was vacant, or none
+  abbrev pub Admits : Option ℕ → C × W → List (Option (Client C W T)) → List (Option (Client C W T)) → Type 0
+  Admits None connection before after = AreSameClients before after
+  Admits (Some place) connection before after = Sets place before after None (silent connection)
+
   -- a session that began with its connection, which is watched for bytes; of it this is so
   pub record Begins (begins : T → Type 0) (connection : C × W) (talk : Talk C W T) : Type 0 where
     pub reader_is : talk.reader ≡ connection.0
@@ -28,10 +41,10 @@ module _ {C W T : Type 0} where
     pub is_new : begins talk.session.value
     pub aim_is : talk.aim ≡ Bytes
 
-  -- a connection was given this place, which was vacant, or none
-  abbrev pub Admits : (T → Type 0) → Option ℕ → C × W → List (Option (Client C W T)) → List (Option (Client C W T)) → Type 0
-  Admits begins None connection before after = AreSameClients before after
-  Admits begins (Some place) connection before after = (talk : Talk C W T) × Begins begins connection talk × Sets place before after None (Some (Talks talk))
+  -- of a connection that was silent at this place the session began, of which this is so, or the connection was given up
+  abbrev pub Starts : (T → Type 0) → Bool → ℕ → C × W → List (Option (Client C W T)) → List (Option (Client C W T)) → Type 0
+  Starts begins true place connection before after = (talk : Talk C W T) × Begins begins connection talk × Sets place before after (silent connection) (Some (Talks talk))
+  Starts begins false place connection before after = Sets place before after (silent connection) None
 
   -- the halves and the session of a talk after a turn, whatever its connection is watched for
   pub record IsTalkOf (reader : C) (writer : W) (session : T) (talk : Talk C W T) : Type 0 where

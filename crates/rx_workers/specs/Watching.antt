@@ -5,7 +5,7 @@ use Rattle.rx_session.specs.declared.turn.Turn.{Turn}
 use Rattle.rx_session.specs.declared.turn.Turn.TheVariants.{Again, Waits, Stuck, Over}
 use Rattle.rx_workers.specs.Clients.{client_at}
 use Rattle.rx_workers.specs.declared.worker.client.Client.{Client}
-use Rattle.rx_workers.specs.declared.worker.client.Client.TheVariants.{Talks, Follows}
+use Rattle.rx_workers.specs.declared.worker.client.Client.TheVariants.{Silent, Talks, Follows}
 use Rattle.rx_workers.specs.declared.readiness.Aim.{Aim}
 use Rattle.rx_workers.specs.declared.readiness.Aim.TheVariants.{Bytes, Both, HangUp}
 
@@ -23,9 +23,11 @@ pub record Watches (key : ℕ) (aim : Option Aim) (before after : ℕ → Option
   pub others : (other : ℕ) → other ≢ key → after other ≡ before other
 
 module _ {C W T : Type 0} where
-  -- what a client is watched for: a session for what it waits for, a follower for the end; nobody for nothing
+  -- what a client is watched for: one that is silent for bytes, a session for what it waits for, a follower for the end; nobody
+  -- for nothing
   abbrev pub aim_of : Option (Client C W T) → Option Aim
   aim_of None = None
+  aim_of (Some (Silent reader writer)) = Some Bytes
   aim_of (Some (Talks talk)) = Some talk.aim
   aim_of (Some (Follows follower)) = Some HangUp
 

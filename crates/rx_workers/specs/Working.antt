@@ -2,18 +2,20 @@
 -- others (this project's own rule).
 --
 -- A worker: What it does is a list of deeds, in their order: a connection came and was given a vacant place, or was given up;
--- the Bye came; its inbox told that no letter comes any more; the session at a place had one turn; the follower at a place
--- was parted with, and its observer, whom the last Join of its session made, was disposed of by one call. The desk's calls
--- are just the calls of these deeds, in the order made. It ends behind its Bye alone, or where its inbox told that none comes
--- any more, and once no session is under way. Each connection that was given a place is served to its end: what was read and
--- written there is a session, as the session's bytes say, whose lines were asked of the desk as others left it. `sessions`
--- counts them. What `join` answers is this of the worker that was started. No clause says why a connection was given up,
--- which is for want of memory or since it can't be watched, nor that the inbox did tell that none comes, nor that who is
--- ready has a turn: these are tested. A session begins watched for bytes; behind a turn it is watched for bytes where it has
--- none, for room too where its writer took no more, and as before where it goes on at once. Inside the crate each call that
--- serves is given a `Readiness` that watches the connection at each place for that, who follows for the hang-up, and nothing
--- at a vacant place, and leaves it so. Of who is ready, the session at its place alone has turns, and where the `Readiness`
--- tells that its peer hung up, and just there, the follower at its place is parted with.
+-- the Bye came; its inbox told that no letter comes any more; of a connection at a place of which nothing had come the session
+-- began, or it was given up; the session at a place had one turn; the follower at a place was parted with, and its observer,
+-- whom the last Join of its session made, was disposed of by one call. The desk's calls are just the calls of these deeds, in
+-- the order made. It ends behind its Bye alone, or where its inbox told that none comes any more, and once no session is under
+-- way or has yet to begin. Each connection that came had its session, or was given up before; each session was served to its
+-- end: what was read and written there is a session, as the session's bytes say, whose lines were asked of the desk as others
+-- left it. `sessions` counts them. What `join` answers is this of the worker that was started. No clause says why a connection
+-- was given up, which is for want of memory or since it can't be watched, nor that the inbox did tell that none comes, nor that
+-- who is ready has a turn: these are tested. A connection is watched for bytes before its session begins; behind a turn it is
+-- watched for bytes where the session has none, for room too where its writer took no more, and as before where it goes on at
+-- once. Inside the crate each call that serves is given a `Readiness` that watches the connection at each place for that, who
+-- follows for the hang-up, and nothing at a vacant place, and leaves it so. Of who is ready, the session at its place alone
+-- begins and has turns, and where the `Readiness` tells that its peer hung up, and just there, the follower at its place is
+-- parted with.
 use Rattle.std.specs.Prelude.{◌≡◌, ◌⊎◌, ◌<◌, ℕ, Bool, true, false, List, [], ◌∷◌, ◌++◌, length, Option, None, Some}
 use Rattle.std.specs.List.{All, Contains}
 use Rattle.rx_mailbox.specs.Boxes.{Incoming, with_letter}
@@ -30,8 +32,8 @@ use Rattle.rx_session.specs.declared.session_end.SessionEnd.{SessionEnd}
 use Rattle.rx_session.specs.declared.turn.Turn.{Turn}
 use Rattle.rx_sink.specs.Acts.{raised}
 use Rattle.rx_desk.specs.declared.client_sink.ClientSink.{ClientSink}
-use Rattle.rx_workers.specs.Clients.{AreSameClients, IsFollower, IsQuiet, IsTalk, Sets, client_at}
-use Rattle.rx_workers.specs.Talks.{Admits, Leaves, goes_at_once}
+use Rattle.rx_workers.specs.Clients.{AreSameClients, IsFollower, IsQuiet, IsSilent, IsTalk, Sets, client_at}
+use Rattle.rx_workers.specs.Talks.{Admits, Leaves, Starts, goes_at_once}
 use Rattle.rx_desk.specs.SessionDesks.{SessionView, KeepsSession, Disposes, emits, follows, has_subject}
 use Rattle.rx_workers.specs.declared.worker.client.Client.{Client}
 use Rattle.rx_workers.specs.declared.worker.client.Client.TheVariants.{Talks, Follows}
@@ -62,18 +64,20 @@ pub record State (M C W : Type 0) : Type 0 where
 abbrev pub state : {M C W : Type 0} → SessionView M (ClientSink W) → Incoming (C × W) → List (Option (Client C W OpenSession)) → ℕ → Bool → State M C W
 state session inbox clients sessions is_open = record { session = session; inbox = inbox; clients = clients; sessions = sessions; is_open = is_open }
 
--- no connection comes to it any more, and no session is under way
+-- no connection comes to it any more, and no session is under way or has yet to begin
 abbrev pub IsFinished : {M C W : Type 0} → State M C W → Type 0
 IsFinished at = (at.is_open ≡ false) × IsQuiet at.clients
 
 -- one thing that a worker does: a connection came, and was given a place, or was given up; the Bye came; the inbox told that no
--- letter comes any more; the session at a place had a turn; the follower at a place was parted with. Why it does so no definition
--- says
+-- letter comes any more; of a connection at a place the session began, or it was given up before; the session at a place had a
+-- turn; the follower at a place was parted with. Why it does so no definition says
 pub data Deed (X : Type 0) : Type 0 where
   Admitted : X → ℕ → Deed X
   GivenUp : X → Deed X
   Dismissed : Deed X
   Abandoned : Deed X
+  Begun : X → ℕ → Deed X
+  LetGo : X → ℕ → Deed X
   Turned : ℕ → Deed X
   Parted : ℕ → Deed X
 
@@ -85,18 +89,38 @@ module _ {X : Type 0} where
   came (GivenUp x ∷ deeds) = came deeds ++ x ∷ []
   came (Dismissed ∷ deeds) = came deeds
   came (Abandoned ∷ deeds) = came deeds
+  came (Begun x place ∷ deeds) = came deeds
+  came (LetGo x place ∷ deeds) = came deeds
   came (Turned place ∷ deeds) = came deeds
   came (Parted place ∷ deeds) = came deeds
 
-  -- those of them that were given a place
-  abbrev pub admitted : List (Deed X) → List X
-  admitted [] = []
-  admitted (Admitted x place ∷ deeds) = admitted deeds ++ x ∷ []
-  admitted (GivenUp x ∷ deeds) = admitted deeds
-  admitted (Dismissed ∷ deeds) = admitted deeds
-  admitted (Abandoned ∷ deeds) = admitted deeds
-  admitted (Turned place ∷ deeds) = admitted deeds
-  admitted (Parted place ∷ deeds) = admitted deeds
+  -- those of them whose session began, in the order in which it did
+  abbrev pub begun : List (Deed X) → List X
+  begun [] = []
+  begun (Admitted x place ∷ deeds) = begun deeds
+  begun (GivenUp x ∷ deeds) = begun deeds
+  begun (Dismissed ∷ deeds) = begun deeds
+  begun (Abandoned ∷ deeds) = begun deeds
+  begun (Begun x place ∷ deeds) = begun deeds ++ x ∷ []
+  begun (LetGo x place ∷ deeds) = begun deeds
+  begun (Turned place ∷ deeds) = begun deeds
+  begun (Parted place ∷ deeds) = begun deeds
+
+  -- those that were given up: as they came, or later, before their session began
+  abbrev pub given_up : List (Deed X) → List X
+  given_up [] = []
+  given_up (Admitted x place ∷ deeds) = given_up deeds
+  given_up (GivenUp x ∷ deeds) = given_up deeds ++ x ∷ []
+  given_up (Dismissed ∷ deeds) = given_up deeds
+  given_up (Abandoned ∷ deeds) = given_up deeds
+  given_up (Begun x place ∷ deeds) = given_up deeds
+  given_up (LetGo x place ∷ deeds) = given_up deeds ++ x ∷ []
+  given_up (Turned place ∷ deeds) = given_up deeds
+  given_up (Parted place ∷ deeds) = given_up deeds
+
+  -- a connection had its session, or was given up before
+  abbrev pub IsMet : List (Deed X) → X → Type 0
+  IsMet deeds x = Contains (begun deeds) x ⊎ Contains (given_up deeds) x
 
   -- a connection came, and nothing else
   abbrev pub IsConnection : Deed X → Type 0
@@ -104,6 +128,8 @@ module _ {X : Type 0} where
   IsConnection (GivenUp x) = Unit {0}
   IsConnection Dismissed = ⊥
   IsConnection Abandoned = ⊥
+  IsConnection (Begun x place) = ⊥
+  IsConnection (LetGo x place) = ⊥
   IsConnection (Turned place) = ⊥
   IsConnection (Parted place) = ⊥
 
@@ -149,15 +175,21 @@ module _ {M C W : Type 0} (tells : M → ℕ → M → Type 0) (remaining : C �
   -- ONE DEED. Behind the Bye, and where none comes any more, the worker is closed to connections
   abbrev pub Does : Deed (C × W) → State M C W → State M C W → Type 0
   Does (Admitted connection place) before after =
-      Receives (Body connection) before after × Admits IsNew (Some place) connection before.clients after.clients
-      × (after.sessions ≡ raised before.sessions) × (after.is_open ≡ before.is_open)
+      Receives (Body connection) before after × Admits (Some place) connection before.clients after.clients
+      × (after.sessions ≡ before.sessions) × (after.is_open ≡ before.is_open)
   Does (GivenUp connection) before after =
-      Receives (Body connection) before after × Admits IsNew None connection before.clients after.clients
+      Receives (Body connection) before after × Admits None connection before.clients after.clients
       × (after.sessions ≡ before.sessions) × (after.is_open ≡ before.is_open)
   Does Dismissed before after =
       Receives Bye before after × AreSameClients before.clients after.clients
       × (after.sessions ≡ before.sessions) × (after.is_open ≡ false)
   Does Abandoned before after = after ≡ state before.session before.inbox before.clients before.sessions false
+  Does (Begun connection place) before after =
+      Starts IsNew true place connection before.clients after.clients
+      × (after ≡ state before.session before.inbox after.clients (raised before.sessions) before.is_open)
+  Does (LetGo connection place) before after =
+      Starts IsNew false place connection before.clients after.clients
+      × (after ≡ state before.session before.inbox after.clients before.sessions before.is_open)
   Does (Turned place) before after = HasTurn place before after
   Does (Parted place) before after =
       (follower : Follower C) × Disposes before.session follower.observer after.session
@@ -190,6 +222,12 @@ module _ {M C W : Type 0} (tells : M → ℕ → M → Type 0) (remaining : C �
     pub none : HasNoConnection last after
     pub closed : before.is_open ≡ false → after ≡ before
 
+  -- where the connection at this place was silent its session began, or it was given up; else nothing was done
+  abbrev pub StartsAt : ℕ → State M C W → State M C W → Type 0
+  StartsAt place before after =
+      ((connection : C × W) × (Does (Begun connection place) before after ⊎ Does (LetGo connection place) before after))
+      ⊎ ((¬ IsSilent (client_at place before.clients)) × (after ≡ before))
+
   -- behind a turn the session at this place had a turn more, where it went on at once, and else none
   abbrev pub HasTurnBehind : Bool → ℕ → State M C W → State M C W → Type 0
   HasTurnBehind true place before after = HasTurn place before after
@@ -205,11 +243,12 @@ module _ {M C W : Type 0} (tells : M → ℕ → M → Type 0) (remaining : C �
   abbrev pub PartsAt : ℕ → State M C W → State M C W → Type 0
   PartsAt place before after = Does (Parted place) before after ⊎ ((¬ IsFollower (client_at place before.clients)) × (after ≡ before))
 
-  -- the client at this place was served: its session had its turns, and then, only where its peer hung up, who follows there was
-  -- parted with
+  -- the client at this place was served: its session began where it had yet to, it had its turns, and then, only where its peer
+  -- hung up, who follows there was parted with
   abbrev pub ServesAt : ℕ → Bool → State M C W → State M C W → Type 0
-  ServesAt place false before after = HasTurns place before after
-  ServesAt place true before after = (mid : State M C W) × HasTurns place before mid × PartsAt place mid after
+  ServesAt place false before after = (start : State M C W) × StartsAt place before start × HasTurns place start after
+  ServesAt place true before after =
+      (start : State M C W) × (mid : State M C W) × StartsAt place before start × HasTurns place start mid × PartsAt place mid after
 
   -- a connection was served to its end by a session among others: each of its lines was asked of the desk as it then was
   pub record IsServed (connection : C × W) : Type 0 where
@@ -229,6 +268,7 @@ module _ {M C W : Type 0} (tells : M → ℕ → M → Type 0) (remaining : C �
     pub works : Works deeds (state before.session before.inbox [] 0 true) (state after.session after.inbox clients sessions false)
     pub is_over : Contains deeds Dismissed ⊎ Contains deeds Abandoned
     pub is_quiet : IsQuiet clients
-    pub served : All IsServed (admitted deeds)
+    pub met : All (IsMet deeds) (came deeds)
+    pub served : All IsServed (begun deeds)
     pub kept : KeepsSession before.session after.session
-    pub sessions_are : sessions ≡ counted (length (admitted deeds))
+    pub sessions_are : sessions ≡ counted (length (begun deeds))

@@ -29,7 +29,7 @@ pub use rx_desk::{ClientSink, Joined, Moments, SessionDesk};
 pub use shared_moments::SharedMoments;
 pub use watch_log::WatchLog;
 pub use worker::Worker;
-pub use worker::admission::admit;
+pub use worker::admission::{admit, begin};
 pub use worker::client::{Client, Follower, Talk};
 pub use worker::clients::Clients;
 pub use worker::parting::{Pause, leave};

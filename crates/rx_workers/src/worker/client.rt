@@ -2,10 +2,12 @@ use crate::readiness::Aim;
 use rx_desk::Joined;
 use rx_heap::Heap;
 
-/// A connection that a worker serves: by a session of its kind, or once that has handed its writer over, by watching whether its peer
-/// hung up.
+/// A connection that a worker serves: by a session of its kind, which is made once something comes, or once that has handed its writer
+/// over, by watching whether its peer hung up.
 #[derive(Drop)]
 pub enum Client<C: Drop, W: Drop, T: Drop> {
+    /// Nothing came yet, and there is no session: the half that is read, and the half that is written.
+    Silent(C, W),
     /// A session is under way.
     Talks(Talk<C, W, T>),
     /// An observer joined, to whom the writer was handed.

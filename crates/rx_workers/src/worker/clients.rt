@@ -2,7 +2,8 @@
 // connection is taken for another's.
 ghost use Rattle.std.specs.Prelude.{◌≡◌, ◌<◌, ◌↔◌, [], ◌∷◌, ◌++◌, IfNone, IfOk, IfSome, IsTrue, MatchOption, None, OnErr, OnOk, OnSome, Some, length};
 ghost use Rattle.std.specs.List.{All};
-ghost use Rattle.rx_workers.specs.Clients.{AreSameClients, IsFollower, IsQuiet, IsTalk, Sets, client_at, first_vacant};
+ghost use Rattle.rx_workers.specs.Clients.{AreSameClients, IsFollower, IsQuiet, IsSilent, IsTalk, IsUnserved, Sets, client_at, first_vacant};
+ghost use Rattle.rx_workers.specs.Talks.{silent};
 ghost use Rattle.rx_workers.specs.declared.worker.client.Client.TheVariants.{Follows, Talks};
 
 use crate::worker::client::{Client, Follower, Talk};
@@ -70,6 +71,28 @@ impl<C: Drop, W: Drop, T: Drop> Clients<C, W, T> {
         self.places[place] = client;
     }
 
+    /// Whether a connection is at this place of which nothing came yet.
+    pub fn is_silent(&self, place: usize) -> bool
+        ensures { IsTrue result ↔ IsSilent (client_at place self.now) }
+    {
+        matches!(self.places.get(place), Some(Some(Client::Silent(_, _))))
+    }
+
+    /// Takes the connection at this place, where nothing came of it yet. It is vacant then.
+    pub fn take_silent(&mut self, place: usize) -> Option<(C, W)>
+        ensures taken { MatchOption result (self.new ≡ self.old) (λ connection. Sets place self.old self.new (silent connection) None) }
+        ensures none { IfNone result (¬ IsSilent (client_at place self.old)) }
+        ensures within { IfSome result (λ _. place < length self.new) }
+    {
+        if !self.is_silent(place) {
+            return None;
+        }
+        match mem::replace(&mut self.places[place], None) {
+            Some(Client::Silent(reader, writer)) => Some((reader, writer)),
+            _ => unreachable!(),
+        }
+    }
+
     /// Takes the session under way at this place. It is vacant then.
     pub fn take_talk(&mut self, place: usize) -> Option<Talk<C, W, T>>
         ensures taken { MatchOption result (self.new ≡ self.old) (λ talk. Sets place self.old self.new (Some (Talks talk)) None) }
@@ -101,11 +124,11 @@ impl<C: Drop, W: Drop, T: Drop> Clients<C, W, T> {
         }
     }
 
-    /// Whether no session is under way.
+    /// Whether no session is under way or has yet to begin.
     pub fn is_quiet(&self) -> bool
         ensures { IsTrue result ↔ IsQuiet self.now }
     {
-        none_talks(&self.places)
+        all_are_served(&self.places)
     }
 }
 
@@ -118,16 +141,16 @@ fn first_vacant<C: Drop, W: Drop, T: Drop>(
     places.iter().position(|slot| slot.is_none())
 }
 
-// Whether a session is under way at none of these places.
-fn none_talks<C: Drop, W: Drop, T: Drop>(places: &Vec<Option<Client<C, W, T>>, Heap>) -> bool
-    ensures { IsTrue result ↔ All (λ slot. ¬ IsTalk slot) places.now.items }
+// Whether a session is under way or has yet to begin at none of these places.
+fn all_are_served<C: Drop, W: Drop, T: Drop>(places: &Vec<Option<Client<C, W, T>>, Heap>) -> bool
+    ensures { IsTrue result ↔ All (λ slot. ¬ IsUnserved slot) places.now.items }
 {
-    places.iter().all(|slot| !is_talk(slot))
+    places.iter().all(|slot| !is_unserved(slot))
 }
 
-// Whether a session is under way there.
-fn is_talk<C: Drop, W: Drop, T: Drop>(slot: &Option<Client<C, W, T>>) -> bool
-    ensures { IsTrue result ↔ IsTalk slot.now }
+// Whether a session is under way or has yet to begin there.
+fn is_unserved<C: Drop, W: Drop, T: Drop>(slot: &Option<Client<C, W, T>>) -> bool
+    ensures { IsTrue result ↔ IsUnserved slot.now }
 {
-    matches!(slot, Some(Client::Talks(_)))
+    matches!(slot, Some(Client::Silent(_, _) | Client::Talks(_)))
 }

@@ -13,7 +13,7 @@ use std::sync::Wait;
 // The clients that are served before it is asked again whether a connection came.
 const MOST_READY: u32 = 1_024;
 
-// Serves each connection that comes, until the Bye or until none comes any more, and then until no session is under way.
+// Serves each connection that comes, until the Bye or until none comes any more, and then until each session has ended.
 pub(crate) fn serve_all<
     'a,
     R: Wait,

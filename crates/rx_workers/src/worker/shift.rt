@@ -1,10 +1,10 @@
 ghost use Rattle.std.specs.Prelude.{◌≡◌, ◌↔◌, [], false, true, IsFalse, IsTrue};
 ghost use Rattle.rx_workers.specs.Clients.{IsTalk, client_at};
 ghost use Rattle.rx_workers.specs.Watching.{AreWatched};
-ghost use Rattle.rx_workers.specs.Working.{HasArrivals, HasConnection, HasNoConnection, HasTurnTo, HasTurns, IsFinished, PartsAt, ServesAt, state};
+ghost use Rattle.rx_workers.specs.Working.{HasArrivals, HasConnection, HasNoConnection, HasTurnTo, HasTurns, IsFinished, PartsAt, ServesAt, StartsAt, state};
 
 use crate::readiness::{Readiness, Ready};
-use crate::worker::admission::admit;
+use crate::worker::admission::{admit, begin};
 use crate::worker::client::Talk;
 use crate::worker::clients::Clients;
 use crate::worker::parting::{Pause, leave};
@@ -72,7 +72,7 @@ impl<'a, R, M: Drop, C: Drop, W: Write + Drop> Shift<'a, R, M, C, W> {
         }
     }
 
-    /// Whether no connection comes any more, and no session is under way.
+    /// Whether no connection comes any more, and no session is under way or has yet to begin.
     pub(crate) fn is_over(&self) -> bool
         ensures { IsTrue result ↔ IsFinished self.now }
     {
@@ -132,12 +132,7 @@ impl<'a, R: Wait, M: Moments + Drop, C: Read + Drop, W: Write + Drop> Shift<'a, 
         let Letter { from: _, post } = letter;
         match post {
             Post::Body(connection) => {
-                let session = OpenSession::new(MAX_READS);
-                let admitted = admit(self.heap, &mut self.clients, connection, session, readiness);
-                let Some(_) = admitted else {
-                    return true;
-                };
-                self.sessions = self.sessions.saturating_add(1);
+                admit(&mut self.clients, connection, readiness);
                 true
             }
             Post::Bye => {
@@ -147,15 +142,32 @@ impl<'a, R: Wait, M: Moments + Drop, C: Read + Drop, W: Write + Drop> Shift<'a, 
         }
     }
 
-    /// Serves the client that is ready: a session has a turn or two, and a follower who hung up is parted with.
+    /// Serves the client that is ready: a session begins where it had yet to, and has a turn or two, and a follower who hung up is
+    /// parted with.
     pub(crate) fn serve<P: Readiness<C>>(&mut self, ready: Ready, readiness: &mut P)
         requires { AreWatched (P.watched readiness.old) self.old.clients }
         ensures serves { ServesAt M.tells C.remaining W.contents ready.key ready.is_gone self.old self.new }
         ensures watched { AreWatched (P.watched readiness.new) self.new.clients }
     {
+        self.start(ready.key, readiness);
         self.turn_some(ready.key, readiness);
         if ready.is_gone {
             self.part(ready.key, readiness);
+        }
+    }
+
+    // The session of the connection at this place begins, where nothing came of it yet.
+    fn start<P: Readiness<C>>(&mut self, place: usize, readiness: &mut P)
+        requires { AreWatched (P.watched readiness.old) self.old.clients }
+        ensures starts { StartsAt M.tells C.remaining W.contents place self.old self.new }
+        ensures watched { AreWatched (P.watched readiness.new) self.new.clients }
+    {
+        if !self.clients.is_silent(place) {
+            return;
+        }
+        let session = OpenSession::new(MAX_READS);
+        if begin(self.heap, &mut self.clients, place, session, readiness) {
+            self.sessions = self.sessions.saturating_add(1);
         }
     }
 

@@ -4,6 +4,6 @@ use Rattle.rx_workers.proofs.worker.clients.Clients.is_quiet.Goals as goal
 pub returns : goal.returns
 returns g c =
     rw (← c.self.view_is) (
-      λ yes. quiet-places c.self.inside.places.items (c.none_talks.ensures.0 yes),
-      λ quiet. c.none_talks.ensures.1 (quiet-each c.self.inside.places.items quiet),
+      λ yes. quiet-places c.self.inside.places.items (c.all_are_served.ensures.0 yes),
+      λ quiet. c.all_are_served.ensures.1 (quiet-each c.self.inside.places.items quiet),
     )

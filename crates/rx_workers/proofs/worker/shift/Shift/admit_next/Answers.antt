@@ -3,38 +3,22 @@ use Rattle.std.proofs.Common.{◌∙◌, ap, false, refl, inl, inr, true≢false
 use Rattle.rx_mailbox.specs.Boxes.{Incoming, with_letter}
 use Rattle.rx_mailbox.specs.Letters.{letter}
 use Rattle.rx_mailbox.specs.declared.letter.Post.TheVariants.{Body}
-use Rattle.rx_session.specs.OpenSessions.{IsNew}
-use Rattle.rx_workers.specs.Working.{State, Admitted, GivenUp, Receives, state}
-use Rattle.rx_workers.proofs.Talks.{admits-as}
+use Rattle.rx_workers.specs.Working.{State, Receives, state}
+use Rattle.rx_workers.proofs.Working.{came-one}
 use Rattle.rx_workers.proofs.worker.shift.Shift.admit_next.Goals as goal
 
--- there was no memory for the connection
-pub returns-in_default : goal.returns-in_default
-returns-in_default g c =
+-- a connection came
+pub returns-in-Body : goal.returns-in-Body
+returns-in-Body g c =
     let inbox = c.in-Ok.ensures.received ∙ ap (λ post. with_letter c.self.inside.inbox (letter c.in-Ok.letter.from post)) c.in-Body.is in
     let before : State _ _ _ = state c.self.inside.desk c.self.inside.inbox c.self.inside.clients c.self.inside.sessions c.self.inside.is_open in
-    let after : State _ _ _ = state c.self.inside.desk c.try_recv.new.self c.admit-admitted.new.clients c.self.inside.sessions c.self.inside.is_open in
+    let after : State _ _ _ = state c.self.inside.desk c.try_recv.new.self c.admit.new.clients c.self.inside.sessions c.self.inside.is_open in
     let received : Receives g.M.Moments.tells g.C.Read.remaining g.W.Write.contents (Body c.in-Body.connection) before after =
     record { from = c.in-Ok.letter.from; of_box = c.in-Ok.ensures.port; inbox = inbox; session = refl } in
     rw (← c.self.view_is) (record {
-      came = λ _. (GivenUp c.in-Body.connection, tt, (received, c.in_default.ensures.admits, refl, refl));
+      came = λ _. came-one g.M.Moments.tells g.C.Read.remaining g.W.Write.contents c.admit.result c.in-Body.connection before after received c.admit.ensures.admits refl refl;
       none = λ no. absurd (true≢false no);
-      watched = c.in_default.ensures.watched;
-    })
-
--- it has a place
-pub returns-in-Some : goal.returns-in-Some
-returns-in-Some g c =
-    let inbox = c.in-Ok.ensures.received ∙ ap (λ post. with_letter c.self.inside.inbox (letter c.in-Ok.letter.from post)) c.in-Body.is in
-    let before : State _ _ _ = state c.self.inside.desk c.self.inside.inbox c.self.inside.clients c.self.inside.sessions c.self.inside.is_open in
-    let after : State _ _ _ = state c.self.inside.desk c.try_recv.new.self c.admit-admitted.new.clients c.saturating_add-self-inside.result c.self.inside.is_open in
-    let received : Receives g.M.Moments.tells g.C.Read.remaining g.W.Write.contents (Body c.in-Body.connection) before after =
-    record { from = c.in-Ok.letter.from; of_box = c.in-Ok.ensures.port; inbox = inbox; session = refl } in
-    let begun = admits-as c.new-session.result IsNew c.in-Some.field-0 c.in-Body.connection c.self.inside.clients c.admit-admitted.new.clients c.new-session.ensures.new c.in-Some.ensures.admits in
-    rw (← c.self.view_is) (record {
-      came = λ _. (Admitted c.in-Body.connection c.in-Some.field-0, tt, (received, begun, c.saturating_add-self-inside.ensures, refl));
-      none = λ no. absurd (true≢false no);
-      watched = c.in-Some.ensures.watched;
+      watched = c.admit.ensures.watched;
     })
 
 -- the Bye came
