@@ -1,5 +1,5 @@
 // A sink's line is put together on the stack and written by one `write`, since sinks travel in letters and a buffer in them
-// would be moved with each.
+// would be moved with each. That of a long text goes in pieces, its text from where it stands.
 ghost use Rattle.std.specs.Prelude.{◌≡◌, true, false};
 ghost use Rattle.rx_sink.specs.Kinds.{ahead_with_one, flow_behind};
 
@@ -13,8 +13,8 @@ use std::io::{ErrorKind, Write};
 /// that the writer took is gone for this sink, in which nothing ever waits; but over a writer that gathers what it is given
 /// (`gathering`) it tells by the writer's flush whether something waits there.
 ///
-/// Each line is put together on the stack and written whole, by one `write` where the writer takes it at once. A sink holds
-/// no line, since it travels in letters.
+/// A line whose text has up to 56 bytes is put together on the stack and written whole, by one `write` where the writer takes it at
+/// once; that of a longer text by three, or four in the second version. A sink holds no line, since it travels in letters.
 #[derive(Drop)]
 pub struct LineSink<W: Write + Drop> {
     writer: W,
