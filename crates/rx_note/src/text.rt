@@ -1,12 +1,12 @@
 // A text of up to 20 bytes stands in the `Text` itself, which has 24 bytes in all: it takes no memory, and its copies count
 // no owners. Its length and its bytes begin where a word or a half does, so that it is moved in whole words; where it was
 // not, measured, a third of a script's way were reads that span two earlier writes. A longer one has its bytes in a block
-// that its copies share, beside the count of its owners, at one growth. There are five sizes of block, each about twice the
-// one before it, since the toolchain's shared slice is a shared list, which takes two growths, and a block of just the right
-// size is none of its types: so about half of a block is left over at most, save in the smallest. So what waits takes 32
-// bytes an item beside its longer text, and an item with a short text costs its producer nothing. To contracts all are the
-// list of their bytes. The forms have one drop, written by hand, so that a function that lets a text go has one path there
-// and not two.
+// that its copies share, beside the count of its owners, at one growth. There are eight sizes of block, for up to 56 bytes to
+// 1,024, since the toolchain's shared slice is a shared list, which takes two growths, and a block of just the right size is
+// none of its types: so about half of a block is left over at most, save in the smallest, and about a third in those for more
+// than 120 bytes (`long_block.rt`). So what waits takes 32 bytes an item beside its longer text, and an item with a short text
+// costs its producer nothing. To contracts all are the list of their bytes. The forms have one drop, written by hand, so that
+// a function that lets a text go has one path there and not two.
 //
 // A copy of a text takes no memory, and that of a longer one is refused only beyond 2^63 - 1 owners; the contract still
 // allows the refusal, as std's does.
