@@ -30,7 +30,7 @@ use denote.Triple.Spec.{Meets, triple_of}
 use denote.Triple.Table.{entered}
 use denote.Triple.Walked.{says, Stays, stay_dropped, walk_of, ends_at, walk_Meets, Goes-dropped}
 use Rattle.std.specs.contracts.marker.PhantomData as Mark
-use Rattle.rx_sink.proofs.Walks.{none, one, one_made}
+use Rattle.rx_past.proofs.Walks.{none, one, one_made}
 use Rattle.rx_caller.specs.contracts.origin.Origin as Origin
 use Rattle.rx_caller.specs.contracts.origin.Origin.of as F
 use Rattle.rx_caller.specs.contracts.origin.Origin.of.Key.{name as #self}
