@@ -22,7 +22,7 @@ pub(crate) mod tally;
 use crate::call::Call;
 use crate::out::Out;
 use crate::pump::heard::{Heard, SharedHeard, Telling};
-use crate::pump::next_letter::{is_drained, receive};
+use crate::pump::next_letter::{MOST_SEARCHED, is_drained, receive};
 use crate::pump::one_call::handle;
 use crate::pump::pump_end::PumpEnd;
 use crate::pump::pump_fault::PumpFault;
@@ -354,7 +354,10 @@ impl<S: Drop> Pump<S> {
             return;
         };
         let have_ended = telling.hear(self.was_bye);
-        if have_ended && !self.parts.inbox.has_more_in_hand() && is_drained(&self.parts.hub) {
+        if have_ended
+            && !self.parts.inbox.has_more_in_hand()
+            && is_drained(&self.parts.hub, MOST_SEARCHED)
+        {
             self.send_held(rt);
             self.end_telling();
         }

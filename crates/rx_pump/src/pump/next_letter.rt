@@ -11,8 +11,12 @@ use rx_mailbox::{Gone, Inbox, Letter, Port, TryRecvFault, ring_all, try_ring_all
 use std::sync::Wait;
 use std::time::Duration;
 
-// So many observers at most are looked for, from the latest on.
-const MOST_SEARCHED: u32 = 4096;
+// So many observers at most are looked for, from the latest on, where nobody waits for it.
+pub(crate) const MOST_SEARCHED: u32 = 4096;
+
+// And so many before each wait for a letter: twice as many as are held at most, so that this costs no more where many have come and
+// left since.
+const FEW_SEARCHED: u32 = 128;
 
 // How long a letter is waited for while replies are held back for which their box has no room, in milliseconds: their caller
 // may take some and wait for the others.
@@ -39,7 +43,7 @@ pub(crate) fn receive<S: Drop, R: Wait>(
     if try_ring_all(rt, replies) {
         return receive_beside(rt, inbox, replies);
     }
-    if is_drained(hub) {
+    if is_drained(hub, FEW_SEARCHED) {
         inbox.recv_past_nudges(rt)
     } else {
         inbox.recv(rt)
@@ -70,12 +74,12 @@ fn receive_beside<S: Drop, R: Wait>(
     unreachable!()
 }
 
-// Whether nothing waits for any observer, as far as it sees without a long search: of observers that are older than many others it
-// knows nothing, and says no.
-pub(crate) fn is_drained(hub: &Hub) -> bool {
+// Whether nothing waits for any observer, as far as it sees among so many numbers, the latest: of observers that are older it knows
+// nothing, and says no.
+pub(crate) fn is_drained(hub: &Hub, most: u32) -> bool {
     let mut left = hub.observers();
     let joins = hub.joins();
-    for back in 1..=MOST_SEARCHED {
+    for back in 1..=most {
         if left == 0 {
             return true;
         }
