@@ -31,7 +31,7 @@ use Rattle.rx_hub.proofs.Tables.{gains, gains-more, AllStand-at, AllStand-set, a
 -- THE ANSWER
 
 -- the answer to a request, by what decides it
-abbrev told : ℕ → Bool → ℕ → Result Answer Refusal
+abbrev pub told : ℕ → Bool → ℕ → Result Answer Refusal
 told n held_now owing =
     cond (n == 0) (Err refused.ZeroRequest) (cond (not held_now) (Err refused.NoObserver) (cond (nat_le (owing + n) 4294967295) (Ok Asked) (Err refused.TooMuch)))
 
@@ -39,7 +39,7 @@ told_zero : (n : ℕ) (held_now : Bool) (owing : ℕ) → n ≡ 0 → told n hel
 told_zero n held_now owing zero_n = let is : (n == 0) ≡ true = grind (arith, nat_tests) in
     ap (λ b. cond b (Err refused.ZeroRequest) (cond (not held_now) (Err refused.NoObserver) (cond (nat_le (owing + n) 4294967295) (Ok Asked) (Err refused.TooMuch)))) is
 
-told_more : (n : ℕ) (held_now : Bool) (owing : ℕ) → 0 < n → told n held_now owing ≡ cond (not held_now) (Err refused.NoObserver) (cond (nat_le (owing + n) 4294967295) (Ok Asked) (Err refused.TooMuch))
+pub told_more : (n : ℕ) (held_now : Bool) (owing : ℕ) → 0 < n → told n held_now owing ≡ cond (not held_now) (Err refused.NoObserver) (cond (nat_le (owing + n) 4294967295) (Ok Asked) (Err refused.TooMuch))
 told_more n held_now owing more = let is : (n == 0) ≡ false = grind (arith, nat_tests) in
     ap (λ b. cond b (Err refused.ZeroRequest) (cond (not held_now) (Err refused.NoObserver) (cond (nat_le (owing + n) 4294967295) (Ok Asked) (Err refused.TooMuch)))) is
 
@@ -133,14 +133,14 @@ request_accepted hub H who n k d more few lt named stands =
     ∙ ap (λ m. cond (nat_le (m + n) 4294967295) (Ok Asked) (Err refused.TooMuch)) owing
     ∙ ap (λ b. cond b (Ok Asked) (Err refused.TooMuch)) within
 
-one_asked : (n : ℕ) (one h may : Bool) (s : Signals) (before : Option Signals) → one ≡ true → h ≡ true → may_request n s ≡ true → before ≡ Some s
+pub one_asked : (n : ℕ) (one h may : Bool) (s : Signals) (before : Option Signals) → one ≡ true → h ≡ true → may_request n s ≡ true → before ≡ Some s
     → requested n one h before ≡ Some (s ▸ Requested n)
 one_asked n true true may s before e f g is =
     ap (option_map (λ t. cond (may_request n t) (t ▸ Requested n) t)) is ∙ ap (λ b. Some (cond b (s ▸ Requested n) s)) g
 one_asked n true false may s before e f g is = cc
 one_asked n false h may s before e f g is = cc
 
-not_asked : (n : ℕ) (one h : Bool) (before : Option Signals) → one ≡ false → requested n one h before ≡ before
+pub not_asked : (n : ℕ) (one h : Bool) (before : Option Signals) → one ≡ false → requested n one h before ≡ before
 not_asked n true h before e = cc
 not_asked n false h before e = refl
 

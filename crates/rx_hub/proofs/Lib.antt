@@ -16,6 +16,7 @@ pub mod Running
 pub mod Seats
 pub mod Serving
 pub mod Sharing
+pub mod Singly
 pub mod Staying
 pub mod Tables
 pub mod Taking

@@ -1,15 +1,16 @@
 -- A run grows by one step at its end.
-use Rattle.std.proofs.Common.{◌≡◌, ◌≢◌, ℕ, ◌+◌, ◌-◌, ◌^◌, Bool, true, false, cond, min, List, [], ◌∷◌, ◌++◌, length, Result, Ok, Err, inl, inr, refl, sym, ap, subst, ◌∙◌, arith, append_assoc, append-nil, length-append}
+use Rattle.std.proofs.Common.{◌≡◌, ◌≢◌, ℕ, zero, suc, ◌+◌, ◌-◌, ◌^◌, ◌≤◌, Bool, true, false, cond, if◌then◌else◌, min, replicate, List, [], ◌∷◌, ◌++◌, length, Result, Ok, Err, inl, inr, refl, sym, ap, subst, ◌∙◌, arith, append_assoc, append-nil, length-append, add-one}
 use Rattle.std.proofs.lemmas.List.{map-append}
 use Rattle.rx_note.specs.declared.given.Given.{Given}
 use Rattle.rx_note.specs.declared.rules.Rules.{Rules}
 use Rattle.rx_note.specs.declared.answer.Answer.{Answer}
+use Rattle.rx_note.specs.declared.event.Event.TheVariants.{Request}
 use Rattle.rx_note.specs.declared.refusal.Refusal.{Refusal}
 use Rattle.rx_note.specs.declared.refusal.Refusal.TheVariants.{Ended, Full, Spent, ZeroRequest, NoObserver, TooMuch, Memory}
 use Rattle.rx_history.specs.Histories.{History, ◌▹◌, Entry, answer, outs}
 use Rattle.rx_hub.specs.declared.step.Step.{Step}
-use Rattle.rx_hub.specs.Hubs.{HubState, StandsFor, Steps, MayMiss, is_miss}
-use Rattle.rx_hub.specs.Runs.{made, step_outs, misses_with, IsAnswer, after_run, run_outs, run_places, AreAnswers, misses_after, results_of, places_of, Ran}
+use Rattle.rx_hub.specs.Hubs.{HubState, HubView, StandsFor, Steps, MayMiss, is_miss}
+use Rattle.rx_hub.specs.Runs.{made, step_outs, misses_with, IsAnswer, after_run, run_outs, run_places, AreAnswers, misses_after, missed_in, TakesEach, RequestsEach, results_of, places_of, Ran}
 
 -- THE LAST STEP OF THE DEFINITIONS
 
@@ -117,6 +118,68 @@ pub misses_by : (old new : ℕ) (result : Result Answer Refusal) (miss : Bool) �
     → (result ≢ Err Memory → new ≡ old) → (result ≡ Err Memory → new ≡ min (old + 1) (2 ^ 64 - 1)) → new ≡ misses_with old result
 misses_by old new result true is kept counted = counted (is_memory result is) ∙ sym (ap (λ b. cond b (min (old + 1) (2 ^ 64 - 1)) old) is)
 misses_by old new result false is kept counted = kept (no_memory result is) ∙ sym (ap (λ b. cond b (min (old + 1) (2 ^ 64 - 1)) old) is)
+
+-- ONE CALL FOR SEVERAL STEPS
+
+missed_in-push : (results : List (Result Answer Refusal)) (result : Result Answer Refusal) → missed_in (results ++ result ∷ []) ≡ missed_in results + (if is_miss result then 1 else 0)
+missed_in-push [] result = omega arith
+missed_in-push (r ∷ results) result = omega (arith, missed_in-push results result)
+
+-- no more are Memory than there are
+pub missed_in-few : (results : List (Result Answer Refusal)) → missed_in results ≤ length results
+missed_in-few [] = omega arith
+missed_in-few (r ∷ results) = by_test (is_miss r) (missed_in-few results)
+  where
+    by_test : (b : Bool) → missed_in results ≤ length results → (if b then 1 else 0) + missed_in results ≤ suc (length results)
+    by_test true few = omega arith
+    by_test false few = omega arith
+
+replicate-push : {A : Type 0} (n : ℕ) (x : A) → replicate n x ++ x ∷ [] ≡ replicate (suc n) x
+replicate-push zero x = refl
+replicate-push (suc n) x = ap (λ xs. x ∷ xs) (replicate-push n x)
+
+-- none was taken yet
+pub RequestsEach-none : (hub : HubView) (port who : ℕ) (outs_so_far : List Given) → RequestsEach hub hub port who 0 outs_so_far outs_so_far 0
+RequestsEach-none hub port who outs_so_far = record {
+  results = [];
+  count = refl;
+  each = λ H stands. record { answers = tt; gives = sym (append-nil outs_so_far); goes_on = stands };
+  misses = refl;
+  missed_are = refl;
+}
+
+-- one more was
+pub RequestsEach-push : (old hub new : HubView) (port who n : ℕ) (result : Result Answer Refusal) (before mid after : List Given) (missed missed_after : ℕ)
+    → RequestsEach old hub port who n before mid missed → hub.state.rules ≡ old.state.rules
+    → (result ≢ Err Memory → (K : History) → StandsFor hub.state K → Steps hub.state new.state mid after result K (port, Request who 1))
+    → (result ≡ Err Memory → (new.state ≡ hub.state) × (after ≡ mid))
+    → (result ≡ Err Memory → (K : History) → StandsFor hub.state K → MayMiss hub.state.rules K (port, Request who 1))
+    → new.misses ≡ misses_with hub.misses result → missed_after ≡ missed + (if is_miss result then 1 else 0)
+    → RequestsEach old new port who (n + 1) before after missed_after
+RequestsEach-push old hub new port who n result before mid after missed missed_after so_far same step stays accepted misses missed_are =
+    let entry : Entry = (port, Request who 1) in
+    let rules = old.state.rules in
+    let longer : replicate n entry ++ entry ∷ [] ≡ replicate (n + 1) entry = rw add-one (replicate-push n entry) in
+    record {
+      results = so_far.results ++ result ∷ [];
+      count = omega (arith, length-append so_far.results (result ∷ []), so_far.count);
+      each = λ H stands.
+          let ran = so_far.each H stands in
+          let K = after_run H (replicate n entry) so_far.results in
+          let one : Made hub.state.rules new.state mid after result K entry =
+          made_by hub.state new.state mid after result K entry (is_miss result) refl ran.goes_on (λ other. step other K ran.goes_on) stays (λ lost. accepted lost K ran.goes_on) in
+          let mine : Made rules new.state mid after result K entry = subst (λ (r : Rules). Made r new.state mid after result K entry) same one in
+          subst (λ (entries : List Entry). TakesEach rules new.state H entries (so_far.results ++ result ∷ []) before after) longer (record {
+            answers = AreAnswers-push rules H (replicate n entry) so_far.results entry result ran.answers mine.answers;
+            gives =
+                mine.gives ∙ ap (λ os. os ++ step_outs rules K entry result) ran.gives
+                ∙ append_assoc before (run_outs rules H (replicate n entry) so_far.results) (step_outs rules K entry result)
+                ∙ ap (λ os. before ++ os) (sym (run_outs-push rules H (replicate n entry) so_far.results entry result ran.answers));
+            goes_on = subst (λ (J : History). StandsFor new.state J) (sym (after_run-push rules H (replicate n entry) so_far.results entry result ran.answers)) mine.goes_on;
+          });
+      misses = misses ∙ ap (λ m. misses_with m result) so_far.misses ∙ sym (misses_after-push old.misses so_far.results result);
+      missed_are = missed_are ∙ ap (λ m. m + (if is_miss result then 1 else 0)) so_far.missed_are ∙ sym (missed_in-push so_far.results result);
+    }
 
 -- THE RUN
 

@@ -6,16 +6,17 @@
 -- each step's place tells how much of it was given up to that step; up to each step, what each observer was given is what its
 -- given gained since the run began; the hub then stands for the history of the events that were not answered `Memory`. Where
 -- the list of steps can't be had, the run is `Memory` and nothing has changed.
-use Rattle.std.specs.Prelude.{◌≡◌, ◌⊎◌, ℕ, ◌+◌, ◌<◌, ◌-◌, ◌^◌, min, List, [], ◌∷◌, ◌++◌, length, map, take, get_or, Result, Err, if◌then◌else◌}
+use Rattle.std.specs.Prelude.{◌≡◌, ◌⊎◌, ℕ, ◌+◌, ◌<◌, ◌-◌, ◌^◌, min, List, [], ◌∷◌, ◌++◌, length, map, replicate, take, get_or, Result, Err, if◌then◌else◌}
 use Rattle.rx_note.specs.declared.given.Given.{Given}
 use Rattle.rx_note.specs.declared.rules.Rules.{Rules}
 use Rattle.rx_note.specs.declared.answer.Answer.{Answer}
+use Rattle.rx_note.specs.declared.event.Event.TheVariants.{Request}
 use Rattle.rx_note.specs.declared.refusal.Refusal.{Refusal}
 use Rattle.rx_note.specs.declared.refusal.Refusal.TheVariants.{Memory}
 use Rattle.rx_history.specs.Histories.{History, ◌▹◌, Entry, given_to, answer, outs}
 use Rattle.rx_history.specs.Delivery.{notes_for}
 use Rattle.rx_hub.specs.declared.step.Step.{Step}
-use Rattle.rx_hub.specs.Hubs.{HubState, StandsFor, MayMiss, is_miss}
+use Rattle.rx_hub.specs.Hubs.{HubState, HubView, StandsFor, MayMiss, is_miss}
 
 -- ONE STEP
 
@@ -68,6 +69,26 @@ AreAnswers rules H (entry ∷ entries) (result ∷ results) = IsAnswer rules H e
 abbrev pub misses_after : ℕ → List (Result Answer Refusal) → ℕ
 misses_after misses [] = misses
 misses_after misses (result ∷ results) = misses_after (misses_with misses result) results
+
+-- how many of several results are Memory
+abbrev pub missed_in : List (Result Answer Refusal) → ℕ
+missed_in [] = 0
+missed_in (result ∷ results) = (if is_miss result then 1 else 0) + missed_in results
+
+-- several entries were taken one behind another from H on: each was answered so and gave what the definitions say, and the hub stands
+-- for the history that they leave
+pub record TakesEach (rules : Rules) (hub : HubState) (H : History) (entries : List Entry) (results : List (Result Answer Refusal)) (before after : List Given) : Type 0 where
+  pub answers : AreAnswers rules H entries results
+  pub gives : after ≡ before ++ run_outs rules H entries results
+  pub goes_on : StandsFor hub (after_run H entries results)
+
+-- so many requests for one item each for an observer were taken, one behind another, and of them so many refused for want of memory
+pub record RequestsEach (old new : HubView) (port who n : ℕ) (before after : List Given) (missed : ℕ) : Type 0 where
+  pub results : List (Result Answer Refusal)
+  pub count : length results ≡ n
+  pub each : (H : History) → StandsFor old.state H → TakesEach old.state.rules new.state H (replicate n (port, Request who 1)) results before after
+  pub misses : new.misses ≡ misses_after old.misses results
+  pub missed_are : missed ≡ missed_in results
 
 -- A RUN
 

@@ -68,7 +68,7 @@ impl Model for Hub {
 
 impl Hub {
     ghost use Rattle.rx_hub.specs.Hubs.{StandsFor, Steps, MayMiss, are_in_range};
-    ghost use Rattle.rx_hub.specs.Runs.{Ran, GivesEach, misses_after, results_of};
+    ghost use Rattle.rx_hub.specs.Runs.{Ran, GivesEach, RequestsEach, misses_after, results_of};
 
     /// A hub of this kind, with no event yet. Refused in the order `BadLimits`, `Memory`.
     pub fn new(alloc: Heap, kind: Kind, limits: Limits) -> Result<Hub, HubError>
@@ -112,6 +112,32 @@ impl Hub {
         let result = self.multicast.take(port, event, outs);
         self.misses = counted(self.misses, &result);
         result
+    }
+
+    /// Takes so many requests for one item each for an observer, one behind another, each as `step` takes it. It answers how many of
+    /// them were refused for want of memory.
+    pub fn request_each(&mut self, port: u32, who: u32, n: u32, outs: &mut Vec<Given, Heap>) -> u32
+        ensures took { RequestsEach self.old self.new port who n outs.old.items outs.new.items result }
+        ensures rules { self.new.state.rules ≡ self.old.state.rules }
+    {
+        match self.multicast.request(who, n, outs) {
+            Ok(_) => 0,
+            Err(_) => self.request_singly(port, who, n, outs),
+        }
+    }
+
+    // The same by as many steps, where one for all of them is refused: fewer may be taken.
+    #[inline(never)] // rare
+    fn request_singly(&mut self, port: u32, who: u32, n: u32, outs: &mut Vec<Given, Heap>) -> u32
+        ensures took { RequestsEach self.old self.new port who n outs.old.items outs.new.items result }
+        ensures rules { self.new.state.rules ≡ self.old.state.rules }
+    {
+        let mut missed = 0;
+        for _ in 0..n {
+            let result = self.step(port, Event::Request { who, n: 1 }, outs);
+            missed += miss(&result);
+        }
+        missed
     }
 
     /// Takes several events, each from its port, in their order. A step refused for memory has that refusal as its
@@ -198,6 +224,16 @@ impl Hub {
         ensures { result ≡ self.now.misses }
     {
         self.misses
+    }
+}
+
+// One for a Memory answer, and none for another.
+fn miss(answered: &Result<Answer, Refusal>) -> u32
+    ensures { result ≡ (if is_miss answered.now then 1 else 0) }
+{
+    match answered {
+        Err(Refusal::Memory) => 1,
+        _ => 0,
     }
 }
 

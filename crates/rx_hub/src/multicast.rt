@@ -1,6 +1,6 @@
 // A hub's tape has no more items than the most that wait for one observer, or are kept for joiners. That is a fact of the
 // private type `Multicast`, after each step; it rests on every cursor of the tape being that of a seat.
-ghost use Rattle.std.specs.Prelude.{◌≡◌, ◌<◌, ◌≤◌, ◌^◌, ℕ, List, true, max, length, vec_capacity, IfOk, IsOk, OnOk};
+ghost use Rattle.std.specs.Prelude.{◌≡◌, ◌<◌, ◌≤◌, ◌^◌, ℕ, List, true, max, length, vec_capacity, IfOk, IsOk, OnErr, OnOk};
 ghost use Rattle.rx_note.specs.declared.event.Event.TheVariants.{Emit, Join, Request, Dispose};
 ghost use Rattle.rx_note.specs.declared.given.Given.{Given};
 ghost use Rattle.rx_history.specs.Histories.{History, has_room};
@@ -190,8 +190,14 @@ impl Multicast {
 
     // An observer requests items.
     #[inline(never)] // an emission makes no room for what it needs
-    fn request(&mut self, who: u32, n: u32, outs: &mut Vec<Given, Heap>) -> Result<Answer, Refusal>
-        ensures { (port : ℕ) → Takes (state_of self.old) (state_of self.new) outs.old.items outs.new.items result (port, Request who n) }
+    pub(crate) fn request(
+        &mut self,
+        who: u32,
+        n: u32,
+        outs: &mut Vec<Given, Heap>,
+    ) -> Result<Answer, Refusal>
+        ensures takes { (port : ℕ) → Takes (state_of self.old) (state_of self.new) outs.old.items outs.new.items result (port, Request who n) }
+        ensures refused { OnErr result ((state_of self.new ≡ state_of self.old) × (outs.new.items ≡ outs.old.items)) }
     {
         if n == 0 {
             return Err(Refusal::ZeroRequest);

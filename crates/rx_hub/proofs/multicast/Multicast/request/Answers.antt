@@ -14,14 +14,14 @@ use Rattle.rx_hub.proofs.Being.{of_history, same_history}
 use Rattle.rx_hub.proofs.multicast.Multicast.request.Goals.{After-trim}
 use Rattle.rx_hub.proofs.multicast.Multicast.request.Goals as goal
 
-pub returns-then-n-eq0 : goal.returns-then-n-eq0
-returns-then-n-eq0 c port = record {
+pub returns-then-n-eq0-clause-takes : goal.returns-then-n-eq0-clause-takes
+returns-then-n-eq0-clause-takes c port = record {
   rules = refl;
   took = λ H stands. request_zero (state_of c.args.self.now) c.args.outs.now.items H port c.args.who c.args.n c.if-n-eq0.true stands;
 }
 
-pub returns-in_default : goal.returns-in_default
-returns-in_default c port = record {
+pub returns-in_default-clause-takes : goal.returns-in_default-clause-takes
+returns-in_default-clause-takes c port = record {
   rules = refl;
   took = λ H stands.
       request_unheld (state_of c.args.self.now) c.args.outs.now.items H port c.args.who c.args.n (omega arith) (c.in_default.ensures.none refl) stands;
@@ -63,17 +63,17 @@ invariant_of-self c =
       tight = omega (arith, c.trim.ensures.tight, c.keep-keep.ensures);
     }
 
-pub returns-in-Ok : goal.returns-in-Ok
-returns-in-Ok c port = taken c.before port
+pub returns-in-Ok-clause-takes : goal.returns-in-Ok-clause-takes
+returns-in-Ok-clause-takes c port = taken c.before port
 
 -- none were asked for before the audience is
-pub returns-in-Err-ZeroRequest : goal.returns-in-Err-ZeroRequest
-returns-in-Err-ZeroRequest c port =
+pub returns-in-Err-ZeroRequest-clause-takes : goal.returns-in-Err-ZeroRequest-clause-takes
+returns-in-Err-ZeroRequest-clause-takes c port =
     let none = (c.in-Err-ZeroRequest.ensures.refuses nobody).zero.0 (ap Err c.in-Err-ZeroRequest.field-0-is) in
     absurd (omega (arith, none))
 
-pub returns-in-Err-TooMuch : goal.returns-in-Err-TooMuch
-returns-in-Err-TooMuch c port =
+pub returns-in-Err-TooMuch-clause-takes : goal.returns-in-Err-TooMuch-clause-takes
+returns-in-Err-TooMuch-clause-takes c port =
     let old = c.args.self.now in
     let place = c.in-Some.place in
     let is = c.in-Some.ensures.found in
@@ -82,8 +82,8 @@ returns-in-Err-TooMuch c port =
     request_more (state_of old) (same c.ask.new.self) c.args.outs.now.items c.ask.new.outs.items port c.args.who c.args.n place nobody is.within (is.number nobody) much.0 much.1
     (ap same c.in-Err-TooMuch.ensures.err.0) c.in-Err-TooMuch.ensures.err.1
 
-pub returns-in-Err-Memory : goal.returns-in-Err-Memory
-returns-in-Err-Memory c port =
+pub returns-in-Err-Memory-clause-takes : goal.returns-in-Err-Memory-clause-takes
+returns-in-Err-Memory-clause-takes c port =
     let old = c.args.self.now in
     let place = c.in-Some.place in
     let is = c.in-Some.ensures.found in

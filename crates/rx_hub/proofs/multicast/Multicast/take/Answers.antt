@@ -8,7 +8,7 @@ pub returns-in-Join : goal.returns-in-Join
 returns-in-Join c = takes_as _ _ _ _ _ _ _ _ c.in-Join.is (c.join.ensures c.args.port)
 
 pub returns-in-Request : goal.returns-in-Request
-returns-in-Request c = takes_as _ _ _ _ _ _ _ _ c.in-Request.is (c.request.ensures c.args.port)
+returns-in-Request c = takes_as _ _ _ _ _ _ _ _ c.in-Request.is (c.request.ensures.takes c.args.port)
 
 pub returns-in-Dispose : goal.returns-in-Dispose
 returns-in-Dispose c = takes_as _ _ _ _ _ _ _ _ c.in-Dispose.is (c.dispose.ensures c.args.port c.args.outs.now.items)
