@@ -129,20 +129,13 @@ module _ {S : Type 0} where
       (subst (λ (sink : Option S). Sends fault (option_to_list first ++ map give given ++ option_to_list last) port (record { ticket = call.ticket; result = answered; sink = sink; items = items }) before then) back_is
       sends)))
 
-  -- a call that brings no sink has none attached, and none goes back
-  no_attach : (answered : Result Answer Refusal) → [] ≡ attach_of {S = S} answered None
+  -- a call that brings no sink has none attached
+  pub no_attach : (answered : Result Answer Refusal) → [] ≡ attach_of {S = S} answered None
   no_attach (Ok answers.Admitted) = refl
   no_attach (Ok (answers.Joined who)) = refl
   no_attach (Ok answers.Asked) = refl
   no_attach (Ok answers.Left) = refl
   no_attach (Err refusal) = refl
-
-  no_back : (answered : Result Answer Refusal) → None ≡ sent_back {S = S} answered None
-  no_back (Ok answers.Admitted) = refl
-  no_back (Ok (answers.Joined who)) = refl
-  no_back (Ok answers.Asked) = refl
-  no_back (Ok answers.Left) = refl
-  no_back (Err refusal) = refl
 
   -- the notes were sent, or a drainer is gone; from a port with no place for a reply none was put
   pub sends_notes : (notes : List (Out S)) (outcome : Result (Unit {0}) ℕ) (fault : Option PumpFault) (port : ℕ) (reply : Reply S) (before then : Ports S)
@@ -153,14 +146,3 @@ module _ {S : Type 0} where
       (puts, subst (λ (l : List (Outgoing (Reply S))). Puts (λ p. to_port port p reply) before.replies l) (sym same) (Puts-no_place before.replies port reply silent))
   sends_notes notes (Err place) fault port reply before then stops same silent is =
       subst (λ (f : Option PumpFault). Sends f notes port reply before then) (sym is) (stops, same)
-
-  -- a request that brings no sink was handled
-  pub handled_request : (hub after : HubView) (before then : Ports S) (answered : Result Answer Refusal) (given : List Given) (items : ℕ) (was_refused : Bool) (fault : Option PumpFault) (port who n ticket : ℕ)
-      → was_refused ≡ is_miss answered
-      → Stepped hub after answered given port (record { ticket = ticket; event = Request who n; sink = None }) → items ≡ after.state.subject.count
-      → Sends fault (map give given) port (record { ticket = ticket; result = answered; sink = None; items = items }) before then
-      → HandlesCall hub after before then was_refused fault port (record { ticket = ticket; event = Request who n; sink = None })
-  handled_request hub after before then answered given items was_refused fault port who n ticket refused_is stepped items_are sends =
-      handled_with hub after before then answered given None None None None items was_refused fault port (record { ticket = ticket; event = Request who n; sink = None })
-      refused_is (no_attach answered) (no_back answered) refl refl stepped items_are
-      (subst (λ (l : List (Out S)). Sends fault l port (record { ticket = ticket; result = answered; sink = None; items = items }) before then) (sym (append-nil (map give given))) sends)

@@ -17,12 +17,12 @@ use Rattle.rx_pump.specs.declared.reply.Reply.{Reply}
 use Rattle.rx_pump.specs.declared.pump.pump_stop.PumpStop.{PumpStop}
 use Rattle.rx_pump.specs.Marks.{Marked, route, replies}
 use Rattle.rx_mailbox.specs.PortRows.{with_bye, EndsSome}
-use Rattle.rx_pump.specs.Pumps.{PumpView, HavePut, HavePutUpTo, AreAllMade, AreSame, port_place, Accounts, Pumps, IsPumped, KeepsPump}
+use Rattle.rx_pump.specs.Pumps.{PumpView, HavePut, HavePutUpTo, AreSame, port_place, Accounts, Pumps, IsPumped, KeepsPump}
 use Rattle.rx_pump.specs.Serving.{HaveEnded, HaveEndedSome, HasPumped, StopsInTurn, IsNextToEnd, StopsAtEnd, PumpHasStopped}
 use Rattle.rx_pump.proofs.Placing.{slice_get-append_left, slice_get-append_right}
 use Rattle.rx_pump.proofs.Pumping.{HavePut-same, AreSame-length, option_map_some}
 use Rattle.rx_mailbox.proofs.Told.{told-length}
-use Rattle.rx_pump.proofs.Turning.{PutAll-whole, all_made-whole}
+use Rattle.rx_pump.proofs.Turning.{PutAll-whole}
 
 module _ {X : Type 0} where
   -- ports that have put their bodies have ended once they put a Bye
@@ -93,38 +93,28 @@ some_is_not_none fault met is none = cc
 
 module _ {S : Type 0} where
   -- the same marks account for the same hub and inbox
-  accounts_same : {hub hub_after : HubView} {inbox inbox_after : Incoming (Call S)} (callers misses_before : ℕ) (unmade : List (Letter (Call S))) (B : Marked S)
-      → hub_after ≡ hub → inbox_after ≡ inbox → Accounts callers hub inbox misses_before unmade B → Accounts callers hub_after inbox_after misses_before unmade B
-  accounts_same {hub} {hub_after} {inbox} {inbox_after} callers misses_before unmade B same_hub same_inbox a =
-      subst (λ (h : HubView). Accounts callers h inbox_after misses_before unmade B) (sym same_hub) (subst (λ (i : Incoming (Call S)). Accounts callers hub i misses_before unmade B) (sym same_inbox) a)
-
-  -- the same of a pump without a fault, that made all
-  accounts_whole : {hub_after : HubView} {inbox_after : Incoming (Call S)} (pump : PumpView S) (unmade : List (Letter (Call S))) (B : Marked S)
-      → hub_after ≡ pump.hub → inbox_after ≡ pump.inbox → pump.fault ≡ None → AreAllMade pump.fault unmade → Pumps pump unmade B → Accounts (length pump.replies) hub_after inbox_after pump.misses_before [] B
-  accounts_whole {hub_after} {inbox_after} pump unmade B same_hub same_inbox whole all p =
-      accounts_same (length pump.replies) pump.misses_before [] B same_hub same_inbox
-      (subst (λ (l : List (Letter (Call S))). Accounts (length pump.replies) pump.hub pump.inbox pump.misses_before l B) (all_made-whole pump.fault unmade whole all) p.accounts)
+  accounts_same : {hub hub_after : HubView} {inbox inbox_after : Incoming (Call S)} (callers misses_before : ℕ) (B : Marked S)
+      → hub_after ≡ hub → inbox_after ≡ inbox → Accounts callers hub inbox.received misses_before B → Accounts callers hub_after inbox_after.received misses_before B
+  accounts_same {hub} {hub_after} {inbox} {inbox_after} callers misses_before B same_hub same_inbox a =
+      subst (λ (h : HubView). Accounts callers h inbox_after.received misses_before B) (sym same_hub) (subst (λ (i : Incoming (Call S)). Accounts callers hub i.received misses_before B) (sym same_inbox) a)
 
   -- a turn stopped, and no port has ended
   pub PumpHasStopped-turn : (pump : PumpView S) (stop : PumpStop S)
       → stop.parts.hub ≡ pump.hub → stop.parts.inbox ≡ pump.inbox → (all_told stop.parts.drainers.items) ≡ pump.drainers → (all_told stop.parts.replies.items) ≡ pump.replies
       → stop.ended_drainers.items ≡ [] → stop.ended_replies.items ≡ [] → pump.fault ≡ Some stop.fault → IsPumped pump → PumpHasStopped pump stop
-  PumpHasStopped-turn pump stop hub inbox drainers callers no_drainers no_callers fault (B, unmade, p, all) = (
+  PumpHasStopped-turn pump stop hub inbox drainers callers no_drainers no_callers fault (B, p) = (
     B,
     record {
-      unmade = unmade;
-      accounts = accounts_same (length pump.replies) pump.misses_before unmade B hub inbox p.accounts;
-      came = inl (
-        record {
-          no_drainers = no_drainers;
-          no_callers = no_callers;
-          put = subst (λ (ports : List (Outgoing (Out S))). HavePutUpTo (Some stop.fault) pump.hub.state.rules B ports (all_told stop.parts.replies.items)) (sym drainers)
-              (subst (λ (ports : List (Outgoing (Reply S))). HavePutUpTo (Some stop.fault) pump.hub.state.rules B pump.drainers ports) (sym callers)
-              (subst (λ (f : Option PumpFault). HavePutUpTo f pump.hub.state.rules B pump.drainers pump.replies) fault p.put));
-          waited = λ gone whole. absurd (some_is_not_none pump.fault stop.fault fault whole);
-        },
-        subst (λ (f : Option PumpFault). AreAllMade f unmade) fault all,
-      );
+      accounts = accounts_same (length pump.replies) pump.misses_before B hub inbox p.accounts;
+      came = inl (record {
+        no_drainers = no_drainers;
+        no_callers = no_callers;
+        put = subst (λ (ports : List (Outgoing (Out S))). HavePutUpTo (Some stop.fault) pump.hub.state.rules stop.parts.inbox.received B ports (all_told stop.parts.replies.items)) (sym drainers)
+            (subst (λ (ports : List (Outgoing (Reply S))). HavePutUpTo (Some stop.fault) pump.hub.state.rules stop.parts.inbox.received B pump.drainers ports) (sym callers)
+            (subst (λ (i : Incoming (Call S)). HavePutUpTo (Some stop.fault) pump.hub.state.rules i.received B pump.drainers pump.replies) (sym inbox)
+            (subst (λ (f : Option PumpFault). HavePutUpTo f pump.hub.state.rules pump.inbox.received B pump.drainers pump.replies) fault p.put)));
+        waited = λ gone whole. absurd (some_is_not_none pump.fault stop.fault fault whole);
+      });
       rules = ap (λ (h : HubView). h.state.rules) hub;
       box = ap (λ (i : Incoming (Call S)). i.box) inbox;
       ports = ap (λ (i : Incoming (Call S)). i.ports) inbox;
@@ -138,22 +128,18 @@ module _ {S : Type 0} where
       → stop.parts.hub ≡ pump.hub → stop.parts.inbox ≡ pump.inbox → EndsSome pump.drainers (all_told stop.parts.drainers.items) [] stop.ended_drainers.items
       → (all_told stop.parts.replies.items) ≡ pump.replies → stop.ended_replies.items ≡ [] → stop.fault ≡ DrainerGone place → place ≡ length stop.ended_drainers.items
       → HasEachBye pump.inbox → pump.fault ≡ None → IsPumped pump → PumpHasStopped pump stop
-  PumpHasStopped-drainers pump stop place hub inbox ends callers no_callers fault place_is each_bye whole (B, unmade, p, all) =
-      let put = PutAll-whole pump unmade B whole p in (
+  PumpHasStopped-drainers pump stop place hub inbox ends callers no_callers fault place_is each_bye whole (B, p) =
+      let put = PutAll-whole pump B whole p in (
         B,
         record {
-          unmade = [];
-          accounts = accounts_whole pump unmade B hub inbox whole all p;
-          came = inr (
-            record {
-              each_bye = subst (λ (i : Incoming (Call S)). HasEachBye i) (sym inbox) each_bye;
-              over = λ _. inbox;
-              routed = HaveEndedSome-some _ pump.drainers (all_told stop.parts.drainers.items) stop.ended_drainers.items put.routed ends;
-              replied = HaveEndedSome-none _ pump.replies (all_told stop.parts.replies.items) stop.ended_replies.items callers no_callers put.replied;
-              next = subst (λ (f : PumpFault). IsNextToEnd f stop) (sym fault) (place_is, omega (arith, ends.some, told-length stop.parts.drainers.items), no_callers);
-            },
-            refl,
-          );
+          accounts = accounts_same (length pump.replies) pump.misses_before B hub inbox p.accounts;
+          came = inr (record {
+            each_bye = subst (λ (i : Incoming (Call S)). HasEachBye i) (sym inbox) each_bye;
+            over = λ _. inbox;
+            routed = HaveEndedSome-some _ pump.drainers (all_told stop.parts.drainers.items) stop.ended_drainers.items put.routed ends;
+            replied = HaveEndedSome-none _ pump.replies (all_told stop.parts.replies.items) stop.ended_replies.items callers no_callers put.replied;
+            next = subst (λ (f : PumpFault). IsNextToEnd f stop) (sym fault) (place_is, omega (arith, ends.some, told-length stop.parts.drainers.items), no_callers);
+          });
           rules = ap (λ (h : HubView). h.state.rules) hub;
           box = ap (λ (i : Incoming (Call S)). i.box) inbox;
           ports = ap (λ (i : Incoming (Call S)). i.ports) inbox;
@@ -167,22 +153,18 @@ module _ {S : Type 0} where
       → stop.parts.hub ≡ pump.hub → stop.parts.inbox ≡ pump.inbox → stop.parts.drainers.items ≡ [] → stop.ended_drainers.items ≡ map with_bye pump.drainers
       → EndsSome pump.replies (all_told stop.parts.replies.items) [] stop.ended_replies.items → stop.fault ≡ CallerGone place → place ≡ length stop.ended_replies.items
       → HasEachBye pump.inbox → pump.fault ≡ None → IsPumped pump → PumpHasStopped pump stop
-  PumpHasStopped-replies pump stop place hub inbox no_drainers drainers ends fault place_is each_bye whole (B, unmade, p, all) =
-      let put = PutAll-whole pump unmade B whole p in (
+  PumpHasStopped-replies pump stop place hub inbox no_drainers drainers ends fault place_is each_bye whole (B, p) =
+      let put = PutAll-whole pump B whole p in (
         B,
         record {
-          unmade = [];
-          accounts = accounts_whole pump unmade B hub inbox whole all p;
-          came = inr (
-            record {
-              each_bye = subst (λ (i : Incoming (Call S)). HasEachBye i) (sym inbox) each_bye;
-              over = λ _. inbox;
-              routed = HaveEndedSome-all _ pump.drainers (all_told stop.parts.drainers.items) stop.ended_drainers.items (ap all_told no_drainers) drainers put.routed;
-              replied = HaveEndedSome-some _ pump.replies (all_told stop.parts.replies.items) stop.ended_replies.items put.replied ends;
-              next = subst (λ (f : PumpFault). IsNextToEnd f stop) (sym fault) (place_is, omega (arith, ends.some, told-length stop.parts.replies.items), no_drainers);
-            },
-            refl,
-          );
+          accounts = accounts_same (length pump.replies) pump.misses_before B hub inbox p.accounts;
+          came = inr (record {
+            each_bye = subst (λ (i : Incoming (Call S)). HasEachBye i) (sym inbox) each_bye;
+            over = λ _. inbox;
+            routed = HaveEndedSome-all _ pump.drainers (all_told stop.parts.drainers.items) stop.ended_drainers.items (ap all_told no_drainers) drainers put.routed;
+            replied = HaveEndedSome-some _ pump.replies (all_told stop.parts.replies.items) stop.ended_replies.items put.replied ends;
+            next = subst (λ (f : PumpFault). IsNextToEnd f stop) (sym fault) (place_is, omega (arith, ends.some, told-length stop.parts.replies.items), no_drainers);
+          });
           rules = ap (λ (h : HubView). h.state.rules) hub;
           box = ap (λ (i : Incoming (Call S)). i.box) inbox;
           ports = ap (λ (i : Incoming (Call S)). i.ports) inbox;
@@ -195,16 +177,16 @@ module _ {S : Type 0} where
   pub HasPumped-all : (pump : PumpView S) (left : PumpEnd S)
       → left.hub ≡ pump.hub → left.inbox ≡ pump.inbox → left.drainers.items ≡ map with_bye pump.drainers → left.replies.items ≡ map with_bye pump.replies
       → left.calls ≡ pump.calls → left.refused ≡ pump.refused → HasEachBye pump.inbox → pump.fault ≡ None → IsPumped pump → HasPumped pump left
-  HasPumped-all pump left hub inbox drainers callers calls refused each_bye whole (B, unmade, p, all) = (
+  HasPumped-all pump left hub inbox drainers callers calls refused each_bye whole (B, p) = (
     B,
     record {
-      accounts = accounts_whole pump unmade B hub inbox whole all p;
+      accounts = accounts_same (length pump.replies) pump.misses_before B hub inbox p.accounts;
       each_bye = subst (λ (i : Incoming (Call S)). HasEachBye i) (sym inbox) each_bye;
       over = λ _. inbox;
       calls = calls ∙ p.calls;
       refused = refused ∙ p.refused;
-      routed = subst (HaveEnded _) (sym drainers) (HaveEnded-byes _ pump.drainers (PutAll-whole pump unmade B whole p).routed);
-      replied = subst (HaveEnded _) (sym callers) (HaveEnded-byes _ pump.replies (PutAll-whole pump unmade B whole p).replied);
+      routed = subst (HaveEnded _) (sym drainers) (HaveEnded-byes _ pump.drainers (PutAll-whole pump B whole p).routed);
+      replied = subst (HaveEnded _) (sym callers) (HaveEnded-byes _ pump.replies (PutAll-whole pump B whole p).replied);
       rules = ap (λ (h : HubView). h.state.rules) hub;
       box = ap (λ (i : Incoming (Call S)). i.box) inbox;
       ports = ap (λ (i : Incoming (Call S)). i.ports) inbox;
@@ -230,8 +212,8 @@ module _ {S : Type 0} where
   HasPumped-kept before after left kept none (B, s) = (
     B,
     record {
-      accounts = subst (λ (n : ℕ). Accounts n left.hub left.inbox before.misses_before [] B) (AreSame-length before.replies after.replies kept.callers)
-          (subst (λ (n : ℕ). Accounts (length after.replies) left.hub left.inbox n [] B) kept.misses_before s.accounts);
+      accounts = subst (λ (n : ℕ). Accounts n left.hub left.inbox.received before.misses_before B) (AreSame-length before.replies after.replies kept.callers)
+          (subst (λ (n : ℕ). Accounts (length after.replies) left.hub left.inbox.received n B) kept.misses_before s.accounts);
       each_bye = s.each_bye;
       over = λ each. over_before before after left.inbox none s.over each;
       calls = s.calls;
@@ -263,7 +245,7 @@ module _ {S : Type 0} where
   in_turn before after stop B kept waited s = record {
     no_drainers = s.no_drainers;
     no_callers = s.no_callers;
-    put = subst (λ (r : Rules). HavePutUpTo (Some stop.fault) r B (all_told stop.parts.drainers.items) (all_told stop.parts.replies.items)) kept.rules s.put;
+    put = subst (λ (r : Rules). HavePutUpTo (Some stop.fault) r stop.parts.inbox.received B (all_told stop.parts.drainers.items) (all_told stop.parts.replies.items)) kept.rules s.put;
     waited = λ gone whole. elim (waited gone whole) as (λ _. ¬ HasEachBye stop.parts.inbox) [ inl none ↦ s.waited gone none | inr not_each ↦ not_each ];
   }
 
@@ -273,12 +255,11 @@ module _ {S : Type 0} where
   PumpHasStopped-kept before after stop kept none waited (B, s) = (
     B,
     record {
-      unmade = s.unmade;
-      accounts = subst (λ (n : ℕ). Accounts n stop.parts.hub stop.parts.inbox before.misses_before s.unmade B) (AreSame-length before.replies after.replies kept.callers)
-          (subst (λ (n : ℕ). Accounts (length after.replies) stop.parts.hub stop.parts.inbox n s.unmade B) kept.misses_before s.accounts);
+      accounts = subst (λ (n : ℕ). Accounts n stop.parts.hub stop.parts.inbox.received before.misses_before B) (AreSame-length before.replies after.replies kept.callers)
+          (subst (λ (n : ℕ). Accounts (length after.replies) stop.parts.hub stop.parts.inbox.received n B) kept.misses_before s.accounts);
       came = elim s.came [
-        | inl turned ↦ inl (in_turn before after stop B kept waited turned.0, turned.1)
-        | inr ended ↦ inr (at_end before after stop B kept none ended.0, ended.1)
+        | inl turned ↦ inl (in_turn before after stop B kept waited turned)
+        | inr ended ↦ inr (at_end before after stop B kept none ended)
       ];
       rules = s.rules ∙ kept.rules;
       box = s.box ∙ kept.box;

@@ -7,6 +7,7 @@ pub mod Shares
 pub mod Calls
 pub mod Pumping
 pub mod Turning
+pub mod Making
 pub mod Leaving
 pub mod Aside
 pub mod Desking

@@ -1,5 +1,5 @@
 -- What letters stand for.
-use Rattle.std.proofs.Common.{◌≡◌, ◌∙◌, sym, refl, ap, subst, ℕ, ◌<◌, ◌≤◌, Bool, true, false, nat_lt, if◌then◌else◌, List, [], ◌∷◌, ◌++◌, append-nil, append_assoc, replicate, Option, None, Some, inr, arith}
+use Rattle.std.proofs.Common.{◌≡◌, ◌∙◌, sym, refl, ap, subst, ℕ, ◌<◌, ◌≤◌, Bool, true, false, nat_lt, if◌then◌else◌, List, [], ◌∷◌, ◌++◌, append-nil, append_assoc, replicate, Option, None, Some, arith}
 use Rattle.std.proofs.lemmas.Bool.Decides.{nat_tests}
 use Rattle.std.proofs.lemmas.Grind.{flat_map-append}
 use Rattle.rx_note.specs.declared.event.Event.{Event}
@@ -9,7 +9,7 @@ use Rattle.rx_mailbox.specs.declared.letter.Post.{Post}
 use Rattle.rx_mailbox.specs.declared.letter.Post.TheVariants.{Body, Bye}
 use Rattle.rx_mailbox.specs.Letters.{letter, posts}
 use Rattle.rx_pump.specs.declared.call.Call.{Call}
-use Rattle.rx_pump.specs.Opened.{ask, calls_in, opened_post, opened_letter, opened, AreLastOf}
+use Rattle.rx_pump.specs.Opened.{ask, calls_in, opened_post, opened_letter, opened}
 
 either_way : {A : Type 0} (b : Bool) (x y z : A) → x ≡ z → y ≡ z → (if b then x else y) ≡ z
 either_way true x y z first second = first
@@ -58,13 +58,3 @@ module _ {S : Type 0} where
       → opened_letter {S = S} callers (letter from (Body (record { ticket = ticket; event = Request who n; sink = None }))) ≡ posts from (replicate n (ask ticket who))
   opened-asked callers from ticket who n more =
       ap (λ b. if b then letter from (Body (record { ticket = ticket; event = Request who n; sink = None })) ∷ [] else posts from (replicate n (ask ticket who))) (is_not_below from callers more)
-
-  -- the first of those that are left was made
-  pub AreLastOf-next : (callers : ℕ) (received : List (Letter (Call S))) (x : Letter (Call S)) (rest : List (Letter (Call S))) → AreLastOf callers received (x ∷ rest) → AreLastOf callers received rest
-  AreLastOf-next callers received x rest a = record {
-    before = a.before;
-    last = a.last;
-    came = a.came;
-    done = a.done ++ x ∷ [];
-    parts = append_assoc a.done (x ∷ []) rest ∙ a.parts;
-  }

@@ -7,9 +7,11 @@ use Rattle.std.proofs.lemmas.Option.{slice_get_within, get_or_from_slice_get, sl
 use Rattle.std.specs.List.{All}
 use Rattle.std.specs.Option.{option_map}
 use Rattle.rx_note.specs.declared.rules.Rules.{Rules}
+use Rattle.rx_mailbox.specs.declared.letter.Letter.{Letter}
 use Rattle.rx_mailbox.specs.declared.letter.Post.TheVariants.{Body}
 use Rattle.rx_mailbox.specs.Letters.{letter, posts}
 use Rattle.rx_mailbox.specs.Boxes.{Outgoing, with_more}
+use Rattle.rx_pump.specs.declared.call.Call.{Call}
 use Rattle.rx_pump.specs.declared.out.Out.{Out}
 use Rattle.rx_pump.specs.declared.pump.pump_fault.PumpFault.{PumpFault}
 use Rattle.rx_pump.specs.declared.pump.pump_fault.PumpFault.TheVariants.{InboxGone, DrainerGone, CallerGone}
@@ -18,7 +20,7 @@ use Rattle.rx_pump.specs.Marks.{Marked, outs_in, replies, for_drainer, who_of, t
 use Rattle.rx_pump.specs.Sends.{PutsFor}
 use Rattle.rx_mailbox.specs.PortRows.{Puts}
 use Rattle.rx_pump.specs.Turns.{Ports, Sends}
-use Rattle.rx_pump.specs.Pumps.{counted, HavePut, port_place, AreSame, before_last, PutAll, HavePutUpTo}
+use Rattle.rx_pump.specs.Pumps.{counted, HavePut, port_place, AreSame, before_last, IsBefore, PutAll, HavePutUpTo}
 use Rattle.rx_mailbox.specs.PortRows.{IsFresh}
 use Rattle.rx_pump.proofs.Placing.{same_by_place}
 
@@ -82,8 +84,8 @@ module _ {S : Type 0} where
     pub replies_are : (p : ℕ) → replies rules p B ++ to_port port p reply ≡ replies rules p more
 
   -- the same ports, which have put what one letter more sends, or stopped there
-  pub record HaveSent (fault : Option PumpFault) (rules : Rules) (more : Marked S) (before after : Ports S) : Type 0 where
-    pub put : HavePutUpTo fault rules more after.drainers after.replies
+  pub record HaveSent (fault : Option PumpFault) (rules : Rules) (received : List (Letter (Call S))) (more : Marked S) (before after : Ports S) : Type 0 where
+    pub put : HavePutUpTo fault rules received more after.drainers after.replies
     pub drainers : AreSame before.drainers after.drainers
     pub callers : AreSame before.replies after.replies
 
@@ -91,17 +93,17 @@ module _ {S : Type 0} where
   for_drainer-append n d first second = sym (filter-append (λ out. who_of out % n == d) first second)
 
   -- the drainers were sent some outs more
-  routed-more : (outs more all : List (Out S)) (before after : List (Outgoing (Out S))) → outs ++ more ≡ all
+  pub routed-more : (outs more all : List (Out S)) (before after : List (Outgoing (Out S))) → outs ++ more ≡ all
       → HavePut (λ d. for_drainer (length before) d outs) before → PutsFor more before after → HavePut (λ d. for_drainer (length after) d all) after
   routed-more outs more all before after all_are have put =
       HavePut-same _ _ after
       (λ d. for_drainer-append (length before) d outs more ∙ ap (for_drainer (length before) d) all_are ∙ ap (λ n. for_drainer n d all) (sym put.count))
       (HavePut-puts _ _ before after have put)
 
-  pub HaveSent-of : (fault : Option PumpFault) (rules : Rules) (B more : Marked S) (outs : List (Out S)) (port : ℕ) (reply : Reply S) (before after : Ports S)
-      → 0 < length before.drainers → IsMore rules B more outs port reply → PutAll rules B before.drainers before.replies
-      → Sends fault outs port reply before after → HaveSent fault rules more before after
-  HaveSent-of None rules B more outs port reply before after some is put sends = record {
+  pub HaveSent-of : (fault : Option PumpFault) (rules : Rules) (received : List (Letter (Call S))) (B more : Marked S) (outs : List (Out S)) (port : ℕ) (reply : Reply S) (before after : Ports S)
+      → 0 < length before.drainers → IsMore rules B more outs port reply → IsBefore (length before.replies) received B more → PutAll rules B before.drainers before.replies
+      → Sends fault outs port reply before after → HaveSent fault rules received more before after
+  HaveSent-of None rules received B more outs port reply before after some is behind put sends = record {
     put = record {
       routed = routed-more (outs_in rules B) outs (outs_in rules more) before.drainers after.drainers is.sends put.routed sends.0;
       replied = HavePut-same _ _ after.replies is.replies_are (HavePut-puts _ _ before.replies after.replies put.replied sends.1);
@@ -109,29 +111,28 @@ module _ {S : Type 0} where
     drainers = AreSame-puts _ before.drainers after.drainers sends.0;
     callers = AreSame-puts _ before.replies after.replies sends.1;
   }
-  HaveSent-of (Some InboxGone) rules B more outs port reply before after some is put sends = absurd sends
-  HaveSent-of (Some (DrainerGone place)) rules B more outs port reply before after some is put sends =
+  HaveSent-of (Some InboxGone) rules received B more outs port reply before after some is behind put sends = absurd sends
+  HaveSent-of (Some (DrainerGone place)) rules received B more outs port reply before after some is behind put sends =
       let stop = sends.0 in
       let count : length after.drainers ≡ length before.drainers = stop.put.count in
       let gone : who_of stop.next % length after.drainers ≡ place = ap (λ n. who_of stop.next % n) count ∙ stop.gone in
       record {
         put = record {
           named = subst (λ (k : ℕ). k < length after.drainers) gone (omega (arith, some, count));
+          before = B;
+          is_before = subst (λ (callers : List (Outgoing (Reply S))). IsBefore (length callers) received B more) (sym sends.1) behind;
           done = stop.done;
           next = stop.next;
           rest = stop.rest;
-          parts = ap (λ (first : Marked S). outs_in rules first ++ stop.done ++ stop.next ∷ stop.rest) is.before ∙ append_assoc (outs_in rules B) stop.done (stop.next ∷ stop.rest)
-              ∙ ap (λ l. outs_in rules B ++ l) stop.parts ∙ is.sends;
+          parts = append_assoc (outs_in rules B) stop.done (stop.next ∷ stop.rest) ∙ ap (λ l. outs_in rules B ++ l) stop.parts ∙ is.sends;
           gone = gone;
-          routed = routed-more (outs_in rules B) stop.done (outs_in rules (before_last more) ++ stop.done) before.drainers after.drainers
-              (ap (λ (first : Marked S). outs_in rules first ++ stop.done) (sym is.before)) put.routed stop.put;
-          replied = subst (HavePut (λ p. replies rules p (before_last more))) (sym sends.1)
-              (HavePut-same _ _ before.replies (λ p. ap (λ (first : Marked S). replies rules p first) (sym is.before)) put.replied);
+          routed = routed-more (outs_in rules B) stop.done (outs_in rules B ++ stop.done) before.drainers after.drainers refl put.routed stop.put;
+          replied = subst (HavePut (λ p. replies rules p B)) (sym sends.1) put.replied;
         };
         drainers = AreSame-puts _ before.drainers after.drainers stop.put;
         callers = ap (map port_place) sends.1;
       }
-  HaveSent-of (Some (CallerGone place)) rules B more outs port reply before after some is put sends = record {
+  HaveSent-of (Some (CallerGone place)) rules received B more outs port reply before after some is behind put sends = record {
     put = record {
       named = subst (λ (callers : List (Outgoing (Reply S))). place < length callers) (sym sends.1) (subst (λ (k : ℕ). k < length before.replies) (sym sends.2) sends.3);
       next = reply;

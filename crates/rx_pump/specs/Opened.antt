@@ -40,14 +40,6 @@ module _ {S : Type 0} where
   abbrev pub opened : ℕ → List (Letter (Call S)) → List (Letter (Call S))
   opened callers letters = flat_map (opened_letter callers) letters
 
-  -- these are the last of those for which the last letter stands that was received
-  pub record AreLastOf (callers : ℕ) (received letters : List (Letter (Call S))) : Type 0 where
-    pub before : List (Letter (Call S))
-    pub last : Letter (Call S)
-    pub came : before ++ last ∷ [] ≡ received
-    pub done : List (Letter (Call S))
-    pub parts : done ++ letters ≡ opened_letter callers last
-
   -- what a port put that is told no reply, each letter as those for which it stands
   abbrev pub opened_port : Outgoing (Call S) → Outgoing (Call S)
   opened_port port = record port { own = opened 0 port.own }

@@ -7,12 +7,11 @@
 -- of its ports came, and takes no letter where they had come before. After a fault the pump does nothing more.
 --
 -- A pump's fault: `InboxGone`: the turn received nothing, and all was put; where a pump serves that had no fault, a Bye had
--- not come. `DrainerGone`: of what the last marked letter sends all was put that comes before an out for the drainer that is
--- named, nothing from there on, and no reply to that letter; of several for which the letter received last stands those behind
--- it were not made. `CallerGone`: all was put but the reply to the last letter, which is
--- for the caller that is named. Or the ports were to end, in their order: all was put, those before the one that is named
+-- not come. `DrainerGone`: of what the letter received last sends, with all for which it stands, all was put that comes before
+-- an out for the drainer that is named, nothing from there on, and no reply to that letter. `CallerGone`: all was put but the reply
+-- to the last letter, which is for the caller that is named. Or the ports were to end, in their order: all was put, those before the one that is named
 -- have ended, and no other (`HavePutUpTo`, `PumpStops` of `Serving.antt`)
-use Rattle.std.specs.Prelude.{◌≡◌, ◌+◌, ◌-◌, ◌^◌, ◌<◌, ◌%◌, ◌⊎◌, min, ℕ, List, [], ◌∷◌, ◌++◌, length, map, Option, Some, None, slice_get}
+use Rattle.std.specs.Prelude.{◌≡◌, ◌+◌, ◌-◌, ◌^◌, ◌<◌, ◌%◌, min, ℕ, zero, suc, List, [], ◌∷◌, ◌++◌, length, map, Option, Some, None, slice_get}
 use Rattle.std.specs.List.{All}
 use Rattle.rx_history.specs.Histories.{NoEvents}
 use Rattle.rx_hub.specs.Hubs.{HubView, StandsFor}
@@ -27,7 +26,7 @@ use Rattle.rx_pump.specs.declared.pump.pump_fault.PumpFault.TheVariants.{InboxGo
 use Rattle.rx_pump.specs.declared.pump.pump_parts.PumpParts.{PumpParts}
 use Rattle.rx_pump.specs.declared.reply.Reply.{Reply}
 use Rattle.rx_note.specs.declared.rules.Rules.{Rules}
-use Rattle.rx_pump.specs.Opened.{opened, AreLastOf}
+use Rattle.rx_pump.specs.Opened.{opened, opened_letter}
 use Rattle.rx_pump.specs.Marks.{Marked, NoLetters, Made, Refused, Ended, letters_of, body_count, refused_in, history_of, AreAcceptable, outs_in, who_of, for_drainer, route, replies}
 
 -- a count of a pump, up to the greatest `u64`
@@ -71,22 +70,36 @@ module _ {S : Type 0} where
   before_last (Refused B port call) = B
   before_last (Ended B port) = B
 
+  -- and without so many of the last
+  abbrev pub without_last : ℕ → Marked S → Marked S
+  without_last zero B = B
+  without_last (suc n) B = before_last (without_last n B)
+
+  -- of marked letters, whose last are those for which the last one received stands, those before it
+  pub record IsBefore (callers : ℕ) (received : List (Letter (Call S))) (before B : Marked S) : Type 0 where
+    pub earlier : List (Letter (Call S))
+    pub last : Letter (Call S)
+    pub came : earlier ++ last ∷ [] ≡ received
+    pub marks : without_last (length (opened_letter callers last)) B ≡ before
+
   -- all: the list of each drainer's port is the drainer's route, and the list of each reply port its replies
   pub record PutAll (rules : Rules) (B : Marked S) (drainers : List (Outgoing (Out S))) (callers : List (Outgoing (Reply S))) : Type 0 where
     pub routed : HavePut (λ d. route rules (length drainers) d B) drainers
     pub replied : HavePut (λ p. replies rules p B) callers
 
-  -- the drainer at this place is gone: of what the last letter sends all was put that comes before an out for it, and
+  -- the drainer at this place is gone: of what the letter received last sends all was put that comes before an out for it, and
   -- nothing from there on
-  pub record StoppedAtDrainer (place : ℕ) (rules : Rules) (B : Marked S) (drainers : List (Outgoing (Out S))) (callers : List (Outgoing (Reply S))) : Type 0 where
+  pub record StoppedAtDrainer (place : ℕ) (rules : Rules) (received : List (Letter (Call S))) (B : Marked S) (drainers : List (Outgoing (Out S))) (callers : List (Outgoing (Reply S))) : Type 0 where
     pub named : place < length drainers
+    pub before : Marked S
+    pub is_before : IsBefore (length callers) received before B
     pub done : List (Out S)
     pub next : Out S
     pub rest : List (Out S)
-    pub parts : outs_in rules (before_last B) ++ done ++ next ∷ rest ≡ outs_in rules B
+    pub parts : outs_in rules before ++ done ++ next ∷ rest ≡ outs_in rules B
     pub gone : who_of next % length drainers ≡ place
-    pub routed : HavePut (λ d. for_drainer (length drainers) d (outs_in rules (before_last B) ++ done)) drainers
-    pub replied : HavePut (λ p. replies rules p (before_last B)) callers
+    pub routed : HavePut (λ d. for_drainer (length drainers) d (outs_in rules before ++ done)) drainers
+    pub replied : HavePut (λ p. replies rules p before) callers
 
   -- the caller at this place is gone: all was put but the reply to the last letter, which is for it
   pub record StoppedAtCaller (place : ℕ) (rules : Rules) (B : Marked S) (drainers : List (Outgoing (Out S))) (callers : List (Outgoing (Reply S))) : Type 0 where
@@ -97,42 +110,34 @@ module _ {S : Type 0} where
     pub replied : HavePut (λ p. replies rules p (before_last B)) callers
 
   -- all, or at the fault of a port what comes before that
-  abbrev pub HavePutUpTo : Option PumpFault → Rules → Marked S → List (Outgoing (Out S)) → List (Outgoing (Reply S)) → Type 0
-  HavePutUpTo None rules B drainers callers = PutAll rules B drainers callers
-  HavePutUpTo (Some InboxGone) rules B drainers callers = PutAll rules B drainers callers
-  HavePutUpTo (Some (DrainerGone place)) rules B drainers callers = StoppedAtDrainer place rules B drainers callers
-  HavePutUpTo (Some (CallerGone place)) rules B drainers callers = StoppedAtCaller place rules B drainers callers
+  abbrev pub HavePutUpTo : Option PumpFault → Rules → List (Letter (Call S)) → Marked S → List (Outgoing (Out S)) → List (Outgoing (Reply S)) → Type 0
+  HavePutUpTo None rules received B drainers callers = PutAll rules B drainers callers
+  HavePutUpTo (Some InboxGone) rules received B drainers callers = PutAll rules B drainers callers
+  HavePutUpTo (Some (DrainerGone place)) rules received B drainers callers = StoppedAtDrainer place rules received B drainers callers
+  HavePutUpTo (Some (CallerGone place)) rules received B drainers callers = StoppedAtCaller place rules B drainers callers
 
 module _ {S : Type 0} where
   -- THE PUMP'S HISTORY
 
-  -- the marked letters, and of what the last one received stands for those that were not made, account for what was received
-  -- and what became of the hub, where so many ports are told replies: it stands for the history of the bodies that were made, and
-  -- each of the others is a step that it refused for want of memory
-  pub record Accounts (callers : ℕ) (hub : HubView) (inbox : Incoming (Call S)) (misses_before : ℕ) (unmade : List (Letter (Call S))) (B : Marked S) : Type 0 where
-    pub letters : letters_of B ++ unmade ≡ opened callers inbox.received
-    pub last : (unmade ≡ []) ⊎ AreLastOf callers inbox.received unmade
+  -- the marked letters account for the letters received, each with all for which it stands where so many ports are told replies,
+  -- and for what became of the hub: it stands for the history of the bodies that were made, and each of the others is a step that
+  -- it refused for want of memory
+  pub record Accounts (callers : ℕ) (hub : HubView) (received : List (Letter (Call S))) (misses_before : ℕ) (B : Marked S) : Type 0 where
+    pub letters : letters_of B ≡ opened callers received
     pub stands : StandsFor hub.state (history_of B)
     pub misses : hub.misses ≡ counted (misses_before + refused_in B)
     pub acceptable : AreAcceptable hub.state.rules B
 
   -- what a pump did is what its marked letters mean, or at the fault of a port what comes before that
-  pub record Pumps (pump : PumpView S) (unmade : List (Letter (Call S))) (B : Marked S) : Type 0 where
-    pub accounts : Accounts (length pump.replies) pump.hub pump.inbox pump.misses_before unmade B
+  pub record Pumps (pump : PumpView S) (B : Marked S) : Type 0 where
+    pub accounts : Accounts (length pump.replies) pump.hub pump.inbox.received pump.misses_before B
     pub calls : pump.calls ≡ counted (body_count B)
     pub refused : pump.refused ≡ counted (refused_in B)
-    pub put : HavePutUpTo pump.fault pump.hub.state.rules B pump.drainers pump.replies
-
-  -- what letters stand for is made, unless a drainer is gone
-  abbrev pub AreAllMade : Option PumpFault → List (Letter (Call S)) → Type 0
-  AreAllMade None unmade = unmade ≡ []
-  AreAllMade (Some InboxGone) unmade = unmade ≡ []
-  AreAllMade (Some (DrainerGone place)) unmade = Unit {0}
-  AreAllMade (Some (CallerGone place)) unmade = unmade ≡ []
+    pub put : HavePutUpTo pump.fault pump.hub.state.rules pump.inbox.received B pump.drainers pump.replies
 
   -- there are such marks
   abbrev pub IsPumped : PumpView S → Type 0
-  IsPumped pump = (B : Marked S) × (unmade : List (Letter (Call S))) × Pumps pump unmade B × AreAllMade pump.fault unmade
+  IsPumped pump = (B : Marked S) × Pumps pump B
 
   -- A NEW PUMP
 
@@ -178,11 +183,18 @@ module _ {S : Type 0} where
     pub callers : AreSame before.replies after.replies
     pub misses_before : after.misses_before ≡ before.misses_before
 
-  -- these letters, which were received, were made or refused one behind another, up to a fault, by the same pump
-  abbrev pub Makes : PumpView S → List (Letter (Call S)) → PumpView S → Type 0
-  Makes before letters after =
-      (B : Marked S) → Pumps before letters B
-      → (more : Marked S) × (unmade : List (Letter (Call S))) × Pumps after unmade more × AreAllMade after.fault unmade × KeepsPump before after
+  -- a letter came last, and what it stands for is not made yet
+  pub record HasReceived (pump : PumpView S) (x : Letter (Call S)) (B : Marked S) : Type 0 where
+    pub earlier : List (Letter (Call S))
+    pub came : earlier ++ x ∷ [] ≡ pump.inbox.received
+    pub accounts : Accounts (length pump.replies) pump.hub earlier pump.misses_before B
+    pub calls : pump.calls ≡ counted (body_count B)
+    pub refused : pump.refused ≡ counted (refused_in B)
+    pub put : PutAll pump.hub.state.rules B pump.drainers pump.replies
+
+  -- then it was, up to a fault of a port, by the same pump
+  abbrev pub Makes : PumpView S → Letter (Call S) → PumpView S → Type 0
+  Makes before x after = (B : Marked S) → HasReceived before x B → (more : Marked S) × Pumps after more × KeepsPump before after
 
   -- one letter more was received
   abbrev pub TakesCall : Incoming (Call S) → Incoming (Call S) → Type 0

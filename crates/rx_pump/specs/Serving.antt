@@ -10,7 +10,7 @@ use Rattle.rx_pump.specs.declared.pump.pump_fault.PumpFault.{PumpFault}
 use Rattle.rx_pump.specs.declared.pump.pump_fault.PumpFault.TheVariants.{InboxGone, DrainerGone, CallerGone}
 use Rattle.rx_pump.specs.declared.pump.pump_stop.PumpStop.{PumpStop}
 use Rattle.rx_pump.specs.Marks.{Marked, body_count, refused_in, route, replies}
-use Rattle.rx_pump.specs.Pumps.{counted, HavePut, HavePutUpTo, AreSame, Accounts, AreAllMade, PumpView}
+use Rattle.rx_pump.specs.Pumps.{counted, HavePut, HavePutUpTo, AreSame, Accounts, PumpView}
 
 module _ {X : Type 0} where
   -- the own list of the port at each place is its bodies and a Bye
@@ -26,7 +26,7 @@ module _ {X : Type 0} where
 module _ {S : Type 0} where
   -- the pump handed in took all letters of its ports and ended its own: what it left is what the marked letters mean
   pub record PumpServes (pump : PumpView S) (left : PumpEnd S) (B : Marked S) : Type 0 where
-    pub accounts : Accounts (length pump.replies) left.hub left.inbox pump.misses_before [] B
+    pub accounts : Accounts (length pump.replies) left.hub left.inbox.received pump.misses_before B
     pub each_bye : HasEachBye left.inbox
     -- where each Bye had come before, no letter was waited for
     pub over : HasEachBye pump.inbox → left.inbox ≡ pump.inbox
@@ -48,7 +48,7 @@ module _ {S : Type 0} where
   pub record StopsInTurn (pump : PumpView S) (stop : PumpStop S) (B : Marked S) : Type 0 where
     pub no_drainers : stop.ended_drainers.items ≡ []
     pub no_callers : stop.ended_replies.items ≡ []
-    pub put : HavePutUpTo (Some stop.fault) pump.hub.state.rules B (all_told stop.parts.drainers.items) (all_told stop.parts.replies.items)
+    pub put : HavePutUpTo (Some stop.fault) pump.hub.state.rules stop.parts.inbox.received B (all_told stop.parts.drainers.items) (all_told stop.parts.replies.items)
     -- that no letter comes is a fault only while a Bye has not come
     pub waited : stop.fault ≡ InboxGone → pump.fault ≡ None → ¬ HasEachBye stop.parts.inbox
 
@@ -69,9 +69,8 @@ module _ {S : Type 0} where
   -- the pump handed in stopped at its fault, in a turn or at its end: what it left is what the marked letters mean, or what
   -- comes before the fault
   pub record PumpStops (pump : PumpView S) (stop : PumpStop S) (B : Marked S) : Type 0 where
-    pub unmade : List (Letter (Call S))
-    pub accounts : Accounts (length pump.replies) stop.parts.hub stop.parts.inbox pump.misses_before unmade B
-    pub came : (StopsInTurn pump stop B × AreAllMade (Some stop.fault) unmade) ⊎ (StopsAtEnd pump stop B × (unmade ≡ []))
+    pub accounts : Accounts (length pump.replies) stop.parts.hub stop.parts.inbox.received pump.misses_before B
+    pub came : StopsInTurn pump stop B ⊎ StopsAtEnd pump stop B
     pub rules : stop.parts.hub.state.rules ≡ pump.hub.state.rules
     pub box : stop.parts.inbox.box ≡ pump.inbox.box
     pub ports : stop.parts.inbox.ports ≡ pump.inbox.ports

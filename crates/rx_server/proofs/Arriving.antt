@@ -67,7 +67,7 @@ arrives {S = S} acts server ended report closes i pump end B box at_pump at_end 
     let same = zip-at (λ (end : PumpEnd S) (box : SettledView (Call S)). inbox_in box ≡ end.inbox) closes.pump_ends report.boxes.subjects.items i end box settled.of_pumps at_end at_box in
     let answers_got = all-at (λ (end : PumpEnd S). GotEach report.boxes.replies.items end.replies.items) closes.pump_ends i end settled.to_desks at_end in
     record {
-      letters = sym (append-nil (letters_of B)) ∙ serves.accounts.letters
+      letters = serves.accounts.letters
           ∙ ap (λ n. opened n end.inbox.received) (sym (AreSame-length pump.replies end.replies.items serves.callers))
           ∙ ap (λ inbox. opened (length end.replies.items) inbox.received) (sym same);
       routes = λ d port outs at_port at_outs. route_came acts server ended report closes i pump end B at_pump at_end at_marks d port outs at_port at_outs;

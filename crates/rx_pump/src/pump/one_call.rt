@@ -1,9 +1,10 @@
 // One call: the hub takes its event, and the ports put what it gave and answered.
 ghost use Rattle.std.specs.Prelude.{◌≡◌, ◌≢◌, ◌<◌, ◌≤◌, [], ◌∷◌, ◌++◌, ℕ, Some, None, length, map, replicate, vec_len, option_to_list, MatchOption, MatchResult};
-ghost use Rattle.rx_note.specs.declared.event.Event.TheVariants.{Request};
+ghost use Rattle.rx_pump.specs.declared.call.Call.{Call};
 ghost use Rattle.rx_hub.specs.Hubs.{is_miss};
 ghost use Rattle.rx_mailbox.specs.Boxes.{all_told};
 ghost use Rattle.rx_mailbox.specs.Letters.{letter, posts};
+ghost use Rattle.rx_mailbox.specs.declared.letter.Letter.{Letter};
 ghost use Rattle.rx_mailbox.specs.declared.letter.Post.TheVariants.{Body};
 ghost use Rattle.rx_pump.specs.Marks.{give, to_port};
 ghost use Rattle.rx_mailbox.specs.PortRows.{Puts};
@@ -44,7 +45,7 @@ pub(crate) fn handle<S: Drop, R: Wait>(
 ) -> Option<PumpFault>
     requires { 0 < vec_len parts.old.drainers }
     ensures makes { (misses_before : ℕ) → Makes (pump_with parts.old tally.old.calls tally.old.refused misses_before None)
-        (opened_letter (callers_of parts.old) (letter port (Body call)))
+        (letter port (Body call))
         (pump_with parts.new tally.new.calls tally.new.refused misses_before result) }
     ensures inbox { parts.new.inbox ≡ parts.old.inbox }
     ensures of_port { result ≢ Some PumpFault.InboxGone }
@@ -76,8 +77,8 @@ fn asked<S: Drop>(call: &Call<S>, port: u32, callers: usize) -> Option<(u32, u32
     }
 }
 
-// Makes so many calls of a port that is told no reply, one behind another, each of which asks for one item more for an observer, as
-// far as there is no fault. It answers that.
+// Makes so many calls of a port that is told no reply, each of which asks for one item more for an observer: the hub takes them by
+// one call, and what they give goes out. It answers the fault, if there is one.
 fn ask_each<S: Drop, R: Wait>(
     rt: &R,
     parts: &mut PumpParts<S>,
@@ -89,47 +90,16 @@ fn ask_each<S: Drop, R: Wait>(
 ) -> Option<PumpFault>
     requires some { 0 < vec_len parts.old.drainers }
     requires silent { vec_len parts.old.replies ≤ port }
-    ensures makes { (misses_before ticket : ℕ) → Makes (pump_with parts.old tally.old.calls tally.old.refused misses_before None)
-        (posts port (replicate n (ask ticket who)))
+    ensures makes { (misses_before ticket : ℕ) (x : Letter (Call S)) → opened_letter (callers_of parts.old) x ≡ posts port (replicate n (ask ticket who))
+        → Makes (pump_with parts.old tally.old.calls tally.old.refused misses_before None) x
         (pump_with parts.new tally.new.calls tally.new.refused misses_before result) }
     ensures inbox { parts.new.inbox ≡ parts.old.inbox }
     ensures of_port { result ≢ Some PumpFault.InboxGone }
 {
-    for _ in 0..n {
-        let handled = handle_request(rt, parts, outs, port, who, 1);
-        tally.count(handled.refused);
-        if handled.fault.is_some() {
-            return handled.fault;
-        }
-    }
-    None
-}
-
-// A call that asks for items and brings no sink, and that is told no reply: of a drainer's, the commonest by far.
-fn handle_request<S: Drop, R: Wait>(
-    rt: &R,
-    parts: &mut PumpParts<S>,
-    outs: &mut Vec<Given, Heap>,
-    port: u32,
-    who: u32,
-    n: u32,
-) -> Handled
-    requires some { 0 < vec_len parts.old.drainers }
-    requires silent { vec_len parts.old.replies ≤ port }
-    ensures handles { (ticket : ℕ) → HandlesCall parts.old.hub parts.new.hub (ports_of parts.old) (ports_of parts.new) result.refused result.fault port
-        (record { ticket = ticket; event = Request who n; sink = None }) }
-    ensures inbox { parts.new.inbox ≡ parts.old.inbox }
-    ensures of_port { result.fault ≢ Some PumpFault.InboxGone }
-    ensures drainers { 0 < vec_len parts.new.drainers }
-    ensures replies { parts.new.replies ≡ parts.old.replies }
-{
     outs.clear();
-    let answered = parts.hub.step(port, Event::Request { who, n }, outs);
-    let outcome = give_all(rt, &mut parts.drainers, outs);
-    Handled {
-        refused: is_memory(answered),
-        fault: drainer_gone(outcome),
-    }
+    let missed = parts.hub.request_each(port, who, n, outs);
+    tally.count_each(n, missed);
+    drainer_gone(give_all(rt, &mut parts.drainers, outs))
 }
 
 // The fault where a drainer is gone.

@@ -19,4 +19,13 @@ impl Tally {
             self.refused = self.refused.saturating_add(1);
         }
     }
+
+    // So many calls more were made, and of these so many refused for want of memory.
+    pub(crate) fn count_each(&mut self, made: u32, refused: u32)
+        ensures calls { self.new.calls ≡ counted (self.old.calls + made) }
+        ensures refused { self.new.refused ≡ counted (self.old.refused + refused) }
+    {
+        self.calls = self.calls.saturating_add(u64::from(made));
+        self.refused = self.refused.saturating_add(u64::from(refused));
+    }
 }

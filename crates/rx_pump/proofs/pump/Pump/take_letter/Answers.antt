@@ -6,7 +6,6 @@ use Rattle.rx_mailbox.specs.declared.letter.Post.TheVariants.{Body}
 use Rattle.rx_pump.specs.declared.call.Call.{Call}
 use Rattle.rx_pump.specs.declared.pump.pump_fault.PumpFault.{PumpFault}
 use Rattle.rx_pump.specs.declared.pump.pump_fault.PumpFault.TheVariants.{InboxGone}
-use Rattle.rx_pump.specs.Opened.{opened_letter}
 use Rattle.rx_pump.specs.Pumps.{PumpView, pump_with, IsPumped, KeepsPump, Makes}
 use Rattle.rx_pump.proofs.Pumping.{AreSame-length}
 use Rattle.rx_mailbox.proofs.Told.{told-count, told-length}
@@ -83,7 +82,7 @@ took g c =
     ∙ ap (λ ports. record before { inbox = with_letter before.inbox x; replies = ports; fault = None }) c.in-Ok.ensures.replies
     ∙ ap (λ fault. record before { inbox = with_letter before.inbox x; fault = fault }) (sym c.in_default.is) in
     IsPumped-letter before mid after x c.in_default.is mid_is
-    (subst (λ (y : Letter (Call _)). Makes mid (opened_letter (length replies) y) after) x_is (c.handle-fault.ensures.makes inside.misses_before)) c.self.invariant.0
+    (subst (λ (y : Letter (Call _)). Makes mid y after) x_is (c.handle-fault.ensures.makes inside.misses_before)) c.self.invariant.0
 
 pub invariant_of-self-2 : goal.invariant_of-self-2
 invariant_of-self-2 g c =

@@ -1,32 +1,25 @@
-use Rattle.std.proofs.Common.{◌≡◌, ◌∙◌, sym, ap, subst, refl, ℕ, List, [], ◌∷◌, None, replicate, vec_len, length, arith}
+use Rattle.std.proofs.Common.{◌≡◌, ◌∙◌, sym, ap, None, length, arith}
 use Rattle.rx_mailbox.specs.Boxes.{all_told}
-use Rattle.rx_mailbox.specs.declared.letter.Letter.{Letter}
 use Rattle.rx_mailbox.specs.declared.letter.Post.TheVariants.{Body}
-use Rattle.rx_mailbox.specs.Letters.{letter, posts}
+use Rattle.rx_mailbox.specs.Letters.{letter}
 use Rattle.rx_mailbox.proofs.Told.{told-length}
-use Rattle.rx_pump.specs.Opened.{ask, opened_letter}
-use Rattle.rx_pump.specs.Pumps.{Makes, pump_with}
-use Rattle.rx_pump.proofs.Turning.{GoesOn-call, Makes-of, all_made-none, took_call}
+use Rattle.rx_pump.specs.Opened.{opened_letter}
+use Rattle.rx_pump.proofs.Turning.{Makes-call, took_call}
 use Rattle.rx_pump.proofs.pump.one_call.handle.Goals as goal
 
 pub returns-in-Some-clause-makes : goal.returns-in-Some-clause-makes
 returns-in-Some-clause-makes g c =
     let callers : c.len.result ≡ length (all_told c.args.parts.now.replies.items) = omega (arith, c.len.ensures, told-length c.args.parts.now.replies.items) in
-    let stands_for = ap (λ (n : ℕ). opened_letter n (letter c.args.port (Body c.args.call))) (sym callers) ∙ c.in-Some.ensures.1 in
     λ misses_before.
-    subst (λ (letters : List (Letter _)). Makes (pump_with c.args.parts.now c.args.tally.now.calls c.args.tally.now.refused misses_before None) letters
-    (pump_with c.ask_each.new.parts c.ask_each.new.tally.calls c.ask_each.new.tally.refused misses_before c.ask_each.result)) (sym stands_for)
-    (c.ask_each.ensures.makes misses_before c.args.call.ticket)
+    c.ask_each.ensures.makes misses_before c.args.call.ticket (letter c.args.port (Body c.args.call))
+    (ap (λ n. opened_letter n (letter c.args.port (Body c.args.call))) (sym callers) ∙ c.in-Some.ensures.1)
 
 pub returns-in-None-clause-makes : goal.returns-in-None-clause-makes
 returns-in-None-clause-makes g c =
     let hr = c.handle_any-handled in
     let callers : c.len.result ≡ length (all_told c.args.parts.now.replies.items) = omega (arith, c.len.ensures, told-length c.args.parts.now.replies.items) in
-    let stands_for = ap (λ (n : ℕ). opened_letter n (letter c.args.port (Body c.args.call))) (sym callers) ∙ c.in-None.ensures in
     λ misses_before.
-    subst (λ (letters : List (Letter _)). Makes (pump_with c.args.parts.now c.args.tally.now.calls c.args.tally.now.refused misses_before None) letters
-    (pump_with hr.new.parts c.count.new.self.calls c.count.new.self.refused misses_before hr.result.fault)) (sym stands_for)
-    (Makes-of _ _ _ [] (all_made-none hr.result.fault [] refl)
-    (GoesOn-call _ _ hr.result.refused c.args.port c.args.call []
+    Makes-call _ _ hr.result.refused c.args.port c.args.call
     (took_call c.args.parts.now hr.new.parts c.args.tally.now.calls c.args.tally.now.refused c.count.new.self.calls c.count.new.self.refused hr.result.refused hr.result.fault c.args.port c.args.call misses_before
-    c.requires hr.ensures.inbox c.count.ensures.calls c.count.ensures.refused hr.ensures.handles)))
+    c.requires hr.ensures.inbox c.count.ensures.calls c.count.ensures.refused hr.ensures.handles)
+    (ap (λ n. opened_letter n (letter c.args.port (Body c.args.call))) (sym callers) ∙ c.in-None.ensures)
