@@ -116,6 +116,14 @@ module _ {S : Type 0} where
       (PutsFor-one (all_told ports) who count (told port) (told after) out who_is (count_is ∙ sym (told-length ports)) (omega (arith, some, told-length ports))
       (told-at ports (who % count) port within port_is) after_is)
 
+  -- the same at a place that is told
+  pub PutsFor-placed : (ports : List (Outgoing (Out S))) (who count place : ℕ) (port after : Outgoing (Out S)) (out : Out S)
+      → place ≡ who % count → who ≡ who_of out → count ≡ length ports → 0 < length ports → port ≡ get_or ports place port → told after ≡ with_post port (Body out)
+      → PutsFor (out ∷ []) (all_told ports) (all_told (set ports place after))
+  PutsFor-placed ports who count place port after out place_is who_is count_is some port_is after_is =
+      subst (λ (k : ℕ). PutsFor (out ∷ []) (all_told ports) (all_told (set ports k after))) (sym place_is)
+      (PutsFor-told ports who count port after out who_is count_is some (port_is ∙ ap (λ k. get_or ports k port) place_is) after_is)
+
   -- first these, then those
   pub PutsFor-then : (first second : List (Out S)) (a b c : List (Outgoing (Out S))) → PutsFor first a b → PutsFor second b c → PutsFor (first ++ second) a c
   PutsFor-then first second a b c p q =
@@ -137,6 +145,14 @@ module _ {S : Type 0} where
       let gone : who_of out % length (all_told ports) ≡ who % count = cc in
       let same : all_told (set ports (who % count) after) ≡ all_told ports = told-set_same ports (who % count) port after port_is after_is in
       subst (λ (now : List (Outgoing (Out S))). StopsAt (out ∷ []) (who % count) (all_told ports) now) (sym same) (StopsAt-first out [] (all_told ports) (who % count) gone)
+
+  -- the same at a place that is told
+  pub StopsAt-placed : (ports : List (Outgoing (Out S))) (who count place : ℕ) (port after : Outgoing (Out S)) (out : Out S)
+      → place ≡ who % count → who ≡ who_of out → count ≡ length ports → port ≡ get_or ports place port → told after ≡ told port
+      → StopsAt (out ∷ []) place (all_told ports) (all_told (set ports place after))
+  StopsAt-placed ports who count place port after out place_is who_is count_is port_is after_is =
+      subst (λ (k : ℕ). StopsAt (out ∷ []) k (all_told ports) (all_told (set ports k after))) (sym place_is)
+      (StopsAt-here ports who count port after out who_is count_is (port_is ∙ ap (λ k. get_or ports k port) place_is) after_is)
 
   -- all of these are sent, and it stops in those
   pub StopsAt-then : (first second : List (Out S)) (place : ℕ) (a b c : List (Outgoing (Out S))) → PutsFor first a b → StopsAt second place b c → StopsAt (first ++ second) place a c

@@ -21,7 +21,24 @@ const MOST_ITEMS: u64 = u32::MAX as u64;
 
 // Asks the subject for what it is to be asked, all items by one letter. That may be held back, need not wake the subject, and waits
 // for no room as long as there is memory: the subject may wait for room in the drainer's box. It answers the fault, if there is one.
+#[inline(always)] // once for each note, behind which mostly nothing is asked
 pub(crate) fn send_asks<S: Drop, R: Wait>(
+    rt: &R,
+    subjects: &mut Vec<Port<Call<S>>, Heap>,
+    subject: u32,
+    asks: Asks,
+) -> Option<DrainFault>
+    ensures { SendsEvents result (map (λ event. (subject, event)) (events_asked asks)) (all_opened subjects.old.items) (all_opened subjects.new.items) }
+{
+    if asks.items == 0 && !asks.leaves {
+        return None;
+    }
+    send_some(rt, subjects, subject, asks)
+}
+
+// The same where something is asked.
+#[inline(never)] // behind one note in eight
+fn send_some<S: Drop, R: Wait>(
     rt: &R,
     subjects: &mut Vec<Port<Call<S>>, Heap>,
     subject: u32,
@@ -144,9 +161,4 @@ fn send<S: Drop, R: Wait>(
 // Whether requests are held back for which their box had no room.
 pub(crate) fn holds_back<S: Drop>(subjects: &Vec<Port<Call<S>>, Heap>) -> bool {
     subjects.iter().any(|port| port.holds_back())
-}
-
-// Whether a subject sleeps that is to be asked for more.
-pub(crate) fn would_wake<S: Drop>(subjects: &Vec<Port<Call<S>>, Heap>) -> bool {
-    subjects.iter().any(|port| port.would_wake())
 }

@@ -1,11 +1,11 @@
 // How many letters come in one turn of a drainer.
 //
 // A drainer waits a tenth of a millisecond within a burst (`Bursts`). What it asks for behind one part of a burst brings the
-// next; where the subject has a core of its own that comes before the flush is done, but where cores are few the subject
-// sleeps until the drainer does, and each write has one window's notes. So behind 64 letters or more, and four or more for
-// each sink, where a subject sleeps that is to be asked for more, the drainer has the requests go and waits before it
-// flushes; not behind as many letters as it last waited in vain, but once in 16 bursts. On one core 64 lines at a time bring
-// 8 subscribers a third more, and 64 of them a half.
+// next, while a flush wakes a peer for each sink, which takes longer than all that a few letters take. So behind 64 letters or
+// more, and four or more for each sink, it has the requests go and waits before it flushes; not behind as many letters as it
+// last waited in vain, but once in 16 bursts. Where cores are few the subject sleeps until the drainer does: on one core 64
+// lines at a time so bring 8 subscribers a third more, and 64 of them a half. Where each has a core of its own one write has
+// three times as many notes to 8 subscribers, and a note takes a sixth less processor time.
 
 // Fewer letters than these, or than so many for each sink, are no burst: what they gave goes out at once.
 const FEWEST: u32 = 64;

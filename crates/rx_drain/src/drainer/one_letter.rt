@@ -13,7 +13,7 @@ ghost use Rattle.rx_mailbox.specs.Letters as letters;
 ghost use Rattle.rx_pump.specs.Pumps.{AreSame};
 ghost use Rattle.rx_drain.specs.Drainers.{Fits, HasGoneOn, HandlesLetter, HandlesNext, HearsBye, IsOfSubject, Pays, TakesMore, TakesSome, any_may_wait, view_of};
 
-use crate::drainer::asks::{holds_back, part_all, send_asks, would_wake};
+use crate::drainer::asks::{holds_back, part_all, send_asks};
 use crate::drainer::bursts::Bursts;
 use crate::drainer::flushes::{flush_due, flush_last, look_after, may_wait};
 use crate::drainer::outs::{finish_unserved, into_sink, serve_out};
@@ -189,8 +189,8 @@ pub(crate) fn handle_more<S: Sink, R: Wait>(
     now
 }
 
-// Takes the letter that comes next, and waits for none but within a burst: where a subject sleeps that is to be asked for more, what
-// is held back for it goes, and it waits shortly for what that brings. Nobody has to write for the wait to end.
+// Takes the letter that comes next, and waits for none but within a burst.
+#[inline(always)] // once for each letter
 fn receive_more<S: Drop, R: Wait>(
     rt: &R,
     parts: &mut DrainerParts<S>,
@@ -201,11 +201,27 @@ fn receive_more<S: Drop, R: Wait>(
     ensures received { MatchResult result (λ letter. parts.new.inbox ≡ with_letter parts.old.inbox letter) (λ _. parts.new.inbox ≡ parts.old.inbox) }
     ensures subjects { all_told parts.new.subjects.items ≡ all_told parts.old.subjects.items }
 {
-    let fault = match parts.inbox.try_recv(rt) {
-        Ok(letter) => return Ok(letter),
-        Err(fault) => fault,
-    };
-    if !bursts.may_go_on(letters, sinks) || !would_wake(&parts.subjects) {
+    match parts.inbox.try_recv(rt) {
+        Ok(letter) => Ok(letter),
+        Err(fault) => await_more(rt, parts, bursts, sinks, letters, fault),
+    }
+}
+
+// Takes the letter that comes next where none is there, and waits for it within a burst alone: what is held back for the subjects goes,
+// and what that brings is waited for shortly. Nobody has to write for the wait to end. It answers this fault where it does not wait.
+#[inline(never)] // once for many letters
+fn await_more<S: Drop, R: Wait>(
+    rt: &R,
+    parts: &mut DrainerParts<S>,
+    bursts: &mut Bursts,
+    sinks: usize,
+    letters: u32,
+    fault: TryRecvFault,
+) -> Result<Letter<Out<S>>, TryRecvFault>
+    ensures received { MatchResult result (λ letter. parts.new.inbox ≡ with_letter parts.old.inbox letter) (λ _. parts.new.inbox ≡ parts.old.inbox) }
+    ensures subjects { all_told parts.new.subjects.items ≡ all_told parts.old.subjects.items }
+{
+    if !bursts.may_go_on(letters, sinks) {
         bursts.ended(letters, sinks);
         return Err(fault);
     }

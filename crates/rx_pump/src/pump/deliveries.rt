@@ -2,9 +2,9 @@
 //
 // A drainer and a caller go by place: observer `who` belongs to the drainer at place `who` modulo their number, the reply to
 // a letter from port p goes by the reply port at place p, whatever these ports' own numbers in their boxes are.
-ghost use Rattle.std.specs.Prelude.{◌≡◌, ◌<◌, [], ◌∷◌, ◌++◌, map, vec_len, option_to_list};
+ghost use Rattle.std.specs.Prelude.{◌≡◌, ◌<◌, ◌%◌, [], ◌∷◌, ◌++◌, map, vec_len, option_to_list};
 ghost use Rattle.rx_mailbox.specs.Boxes.{all_told};
-ghost use Rattle.rx_pump.specs.Marks.{attach_of, detach_of, give, sent_back};
+ghost use Rattle.rx_pump.specs.Marks.{attach_of, detach_of, give, sent_back, who_of};
 ghost use Rattle.rx_pump.specs.Marks as marks;
 ghost use Rattle.rx_pump.specs.Sends.{SendsOuts};
 
@@ -99,7 +99,7 @@ pub(crate) fn give_all<S: Drop, R: Wait>(
     outs.reverse();
     while let Some(given) = outs.pop() {
         let Given { who, note } = given;
-        send(rt, drainers, Out::Give { who, note })?;
+        send_to(rt, drainers, who, Out::Give { who, note })?;
     }
     Ok(())
 }
@@ -109,9 +109,39 @@ fn send<S: Drop, R: Wait>(rt: &R, drainers: &mut Drainers<S>, out: Out<S>) -> Re
     requires { 0 < vec_len drainers.old }
     ensures { SendsOuts (out ∷ []) result (all_told drainers.old.items) (all_told drainers.new.items) }
 {
-    let place = out.who() as usize % drainers.len();
+    let who = out.who();
+    send_to(rt, drainers, who, out)
+}
+
+// Sends an out to the drainer of this observer, which is its.
+#[inline(always)] // once for each note
+fn send_to<S: Drop, R: Wait>(
+    rt: &R,
+    drainers: &mut Drainers<S>,
+    who: u32,
+    out: Out<S>,
+) -> Result<(), usize>
+    requires some { 0 < vec_len drainers.old }
+    requires of { who ≡ who_of out }
+    ensures { SendsOuts (out ∷ []) result (all_told drainers.old.items) (all_told drainers.new.items) }
+{
+    let place = place_among(who, drainers.len());
     let Ok(()) = drainers[place].send_quietly(rt, out) else {
         return Err(place);
     };
     Ok(())
+}
+
+// The place of an observer's drainer among so many. One has them all, and then nothing is divided.
+#[inline(always)] // the same
+fn place_among(who: u32, drainers: usize) -> usize
+    requires { 0 < drainers }
+    ensures place { result ≡ who % drainers }
+    ensures within { result < drainers }
+{
+    if drainers == 1 {
+        0
+    } else {
+        who as usize % drainers
+    }
 }

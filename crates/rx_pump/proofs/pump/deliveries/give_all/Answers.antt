@@ -16,19 +16,16 @@ none_left : {X : Type 0} {n : ℕ} (left : List X) → n ≡ length left → n �
 none_left [] long none = refl
 none_left (x ∷ left) long none = absurd (omega arith)
 
-pub returns-in_err-send : goal.returns-in_err-send
-returns-in_err-send g c =
+pub returns-in_err-send_to : goal.returns-in_err-send_to
+returns-in_err-send_to g c =
     let p = err_from_is_err_and c.from_residual.result c.from_residual.ensures.1 in
     rw (p.1, p.2) (
     Gave-stop c.args.outs.now.items c.reverse.new.self.items c.loop-given.outs.items c.pop.new.self.items c.in-Some.given
-    c.in_err-send.field-0.0 (all_told c.args.drainers.now.items) (all_told c.loop-given.drainers.items) (all_told c.send.new.drainers.items)
-    c.reverse.ensures.items c.in-Some.ensures.items c.loop-given.invariant.gave c.in_err-send.ensures)
+    c.in_err-send_to.field-0.0 (all_told c.args.drainers.now.items) (all_told c.loop-given.drainers.items) (all_told c.send_to.new.drainers.items)
+    c.reverse.ensures.items c.in-Some.ensures.items c.loop-given.invariant.gave c.in_err-send_to.ensures)
 
 pub loop-given-init : goal.loop-given-init
 loop-given-init g c = record { some = c.requires; gave = Gave-none c.reverse.new.self.items (all_told c.args.drainers.now.items) }
-
-pub send-requires : goal.send-requires
-send-requires g c = c.loop-given.invariant.some
 
 pub loop-given-smaller : goal.loop-given-smaller
 loop-given-smaller g c = omega (arith, c.in-Some.ensures.cases)
@@ -36,13 +33,13 @@ loop-given-smaller g c = omega (arith, c.in-Some.ensures.cases)
 pub loop-given-preserved : goal.loop-given-preserved
 loop-given-preserved g c =
     let before = c.loop-given.invariant in
-    let put = c.in_ok-send.ensures in
+    let put = c.in_ok-send_to.ensures in
     record {
       some =
           let olds = c.loop-given.drainers in
-          let news = c.send.new.drainers in
+          let news = c.send_to.new.drainers in
           some_still olds.items news.items olds.ok.0 news.ok.0 (sym (told-length news.items) ∙ put.count ∙ told-length olds.items) before.some;
-      gave = Gave-more _ c.loop-given.outs.items c.pop.new.self.items c.in-Some.given (all_told c.args.drainers.now.items) (all_told c.loop-given.drainers.items) (all_told c.send.new.drainers.items)
+      gave = Gave-more _ c.loop-given.outs.items c.pop.new.self.items c.in-Some.given (all_told c.args.drainers.now.items) (all_told c.loop-given.drainers.items) (all_told c.send_to.new.drainers.items)
           c.in-Some.ensures.items before.gave put;
     }
 

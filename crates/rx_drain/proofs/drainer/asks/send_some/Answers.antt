@@ -5,7 +5,7 @@ use Rattle.rx_mailbox.specs.PortRows.{Puts}
 use Rattle.rx_pump.specs.Opened.{all_opened}
 use Rattle.rx_drain.specs.Calls.{SendsEvents, calls_to}
 use Rattle.rx_drain.proofs.Events.{to, requested_first, requested_then, requested_all, sent_none, requested, SendsEvents-none}
-use Rattle.rx_drain.proofs.drainer.asks.send_asks.Goals as goal
+use Rattle.rx_drain.proofs.drainer.asks.send_some.Goals as goal
 
 pub returns-then-is_some : goal.returns-then-is_some
 returns-then-is_some g c =
