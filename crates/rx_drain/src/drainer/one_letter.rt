@@ -18,8 +18,9 @@ use crate::drainer::bursts::Bursts;
 use crate::drainer::flushes::{flush_due, flush_last, look_after, may_wait};
 use crate::drainer::outs::{finish_unserved, into_sink, serve_out};
 use crate::{DrainFault, DrainerLeft, DrainerParts};
-use rx_mailbox::{Gone, Letter, Post, TryRecvFault, finish_all, nudge_all, try_ring_all};
-use rx_pump::Out;
+use rx_heap::Heap;
+use rx_mailbox::{Gone, Letter, Port, Post, TryRecvFault, finish_all, nudge_all, try_ring_all};
+use rx_pump::{Call, Out};
 use rx_sink::{Sink, put_all_away};
 use std::sync::Wait;
 use std::time::Duration;
@@ -27,6 +28,10 @@ use std::time::Duration;
 // So many letters are taken at most before what waits in the sinks goes out, and the requests that are held back: four times as many
 // as the windows of 64 observers let come at once, so that one write has several windows' notes where more come meanwhile.
 const MOST_LETTERS: u32 = 4096;
+
+// Behind so many letters the requests that are held back go, so that their subjects take them while the others are handled: 64 lines
+// at a time so bring 8 subscribers a tenth more.
+const FEW_LETTERS: u32 = 32;
 
 // How long a letter is waited for while something waits in a sink, or in a port for room, in milliseconds.
 const MOST_WAIT: u64 = 4;
@@ -201,9 +206,20 @@ fn receive_more<S: Drop, R: Wait>(
     ensures received { MatchResult result (λ letter. parts.new.inbox ≡ with_letter parts.old.inbox letter) (λ _. parts.new.inbox ≡ parts.old.inbox) }
     ensures subjects { all_told parts.new.subjects.items ≡ all_told parts.old.subjects.items }
 {
+    pass_on(rt, &mut parts.subjects, letters);
     match parts.inbox.try_recv(rt) {
         Ok(letter) => Ok(letter),
         Err(fault) => await_more(rt, parts, bursts, sinks, letters, fault),
+    }
+}
+
+// Has what is held back for the subjects go behind some letters.
+#[inline(always)] // once for each letter
+fn pass_on<S: Drop, R: Wait>(rt: &R, subjects: &mut Vec<Port<Call<S>>, Heap>, letters: u32)
+    ensures { all_told subjects.new.items ≡ all_told subjects.old.items }
+{
+    if letters % FEW_LETTERS == FEW_LETTERS - 1 {
+        let _is_left = nudge_all(rt, subjects);
     }
 }
 
