@@ -162,3 +162,8 @@ fn send<S: Drop, R: Wait>(
 pub(crate) fn holds_back<S: Drop>(subjects: &Vec<Port<Call<S>>, Heap>) -> bool {
     subjects.iter().any(|port| port.holds_back())
 }
+
+// Whether a subject sleeps that is to be asked for more.
+pub(crate) fn would_wake<S: Drop>(subjects: &Vec<Port<Call<S>>, Heap>) -> bool {
+    subjects.iter().any(|port| port.would_wake())
+}
