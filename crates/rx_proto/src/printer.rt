@@ -15,7 +15,7 @@ const REPLY_LINE: usize = 16;
 const JOINED_LINE: usize = 18;
 
 /// The most bytes of the line of a note with a short text, in both versions. The array that a line is put together in is
-/// cleared and moved whole, so a short one has a small array.
+/// cleared whole, so a short one has a small array.
 pub(crate) const SHORT_LINE: usize = 84;
 
 /// The most bytes of a short text.
@@ -87,12 +87,12 @@ pub(crate) fn text_len(note: &Note) -> usize
     }
 }
 
-/// The line of a note in the first version, with its LF.
-pub(crate) fn note_line<const N: usize>(note: &Note) -> LineBytes<N>
-    requires { length (note_line One note.now) ≤ N }
-    ensures { result ≡ note_line One note.now }
+/// Puts the line of a note in the first version, with its LF, into a line that is empty: one that a function answers would be moved.
+pub(crate) fn put_note<const N: usize>(line: &mut LineBytes<N>, note: &Note)
+    requires empty { line.old ≡ [] }
+    requires room { length (note_line One note.now) ≤ N }
+    ensures { line.new ≡ note_line One note.now }
 {
-    let mut line = LineBytes::new();
     match note {
         Note::Next(item) => {
             line.put(b"NEXT ");
@@ -105,20 +105,18 @@ pub(crate) fn note_line<const N: usize>(note: &Note) -> LineBytes<N>
         }
     }
     line.put(b"\n");
-    line
 }
 
-/// The line of an item in the second version, with its LF.
-pub(crate) fn placed_line<const N: usize>(item: &Item) -> LineBytes<N>
-    requires { length item.now.text + 28 ≤ N }
-    ensures { result ≡ note_line Two (Note.Next item.now) }
+/// Puts the line of an item in the second version, with its LF, into a line that is empty.
+pub(crate) fn put_placed<const N: usize>(line: &mut LineBytes<N>, item: &Item)
+    requires empty { line.old ≡ [] }
+    requires room { length item.now.text + 28 ≤ N }
+    ensures { line.new ≡ note_line Two (Note.Next item.now) }
 {
-    let mut line = LineBytes::new();
     line.put(b"NEXT ");
     line.put(item_origin(item).as_bytes());
     line.put(item.text.as_bytes());
     line.put(b"\n");
-    line
 }
 
 /// What stands before the text of an item in the second version: its place and its port, or two hyphens of a seed.

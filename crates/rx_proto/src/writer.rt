@@ -3,8 +3,9 @@ ghost use Rattle.std.specs.Prelude.{◌++◌};
 ghost use Rattle.rx_proto.specs.Bytes.{Writes};
 ghost use Rattle.rx_proto.specs.Printing.{joined_line, line, note_line, reply_line};
 
+use crate::line_bytes::LineBytes;
 use crate::printer::{
-    SHORT_LINE, SHORT_TEXT, item_origin, joined_line, note_line, placed_line, reply_line, text_len,
+    SHORT_LINE, SHORT_TEXT, item_origin, joined_line, put_note, put_placed, reply_line, text_len,
 };
 use crate::{Response, Version};
 use rx_note::{Item, Note, Text};
@@ -53,7 +54,9 @@ fn write_plain<W: Write>(writer: &mut W, note: &Note) -> Result<(), WriteFault>
     ensures { Writes result (W.contents writer.old) (W.contents writer.new) (note_line Version.One note.now) }
 {
     if text_len(note) <= SHORT_TEXT {
-        write_bytes(writer, note_line::<SHORT_LINE>(note).as_bytes())
+        let mut line = LineBytes::<SHORT_LINE>::new();
+        put_note(&mut line, note);
+        write_bytes(writer, line.as_bytes())
     } else {
         write_long(writer, note)
     }
@@ -87,7 +90,9 @@ fn write_placed<W: Write>(writer: &mut W, note: &Note) -> Result<(), WriteFault>
 {
     match note {
         Note::Next(item) if item.text.as_bytes().len() <= SHORT_TEXT => {
-            write_bytes(writer, placed_line::<SHORT_LINE>(item).as_bytes())
+            let mut line = LineBytes::<SHORT_LINE>::new();
+            put_placed(&mut line, item);
+            write_bytes(writer, line.as_bytes())
         }
         Note::Next(item) => write_long_item(writer, item),
         _ => write_plain(writer, note),

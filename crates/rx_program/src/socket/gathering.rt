@@ -110,6 +110,25 @@ impl<W: Write + Drop, C: Clock + Drop> Gathering<W, C> {
         }
     }
 
+    // Writes what can't wait here: what waits goes before it.
+    #[inline(never)] // rare, and a short line makes no room for its faults
+    fn write_on(&mut self, bytes: &[u8]) -> io::Result<usize>
+        ensures bound { WritesAtMost result bytes.now }
+        ensures bytes { WriteAppends (append_known (W.contents self.old.wire) self.old.waiting.items) (append_known (W.contents self.new.wire) self.new.waiting.items) result bytes.now }
+    {
+        if !self.waiting.is_empty() {
+            self.flush()?;
+        }
+        write_block(&mut self.wire, bytes)
+    }
+
+    // The fault where there is no memory for what is to wait.
+    #[inline(never)] // the same
+    fn unheld(&self) -> io::Error {
+        self.count(Cause::Unheld);
+        io::Error::from(ErrorKind::OutOfMemory)
+    }
+
     // Its socket took all.
     fn free(&mut self)
         ensures wire { self.new.wire ≡ self.old.wire }
@@ -156,19 +175,14 @@ impl<W: Write + Drop, C: Clock + Drop> Write for Gathering<W, C> {
     ghost contents = { λ g. append_known (W.contents g.wire) g.waiting.items };
 
     fn write(&mut self, bytes: &[u8]) -> io::Result<usize> {
-        if self.waiting.is_empty() && bytes.len() >= BLOCK {
-            return write_block(&mut self.wire, bytes);
-        }
-        if self.waiting.len().saturating_add(bytes.len()) > MOST_WAITING {
-            self.flush()?;
-            return write_block(&mut self.wire, bytes);
+        if self.waiting.is_empty() && bytes.len() >= BLOCK
+            || self.waiting.len().saturating_add(bytes.len()) > MOST_WAITING
+        {
+            return self.write_on(bytes);
         }
         match self.waiting.extend_from_slice(bytes) {
             Ok(()) => Ok(bytes.len()),
-            Err(_) => {
-                self.count(Cause::Unheld);
-                Err(io::Error::from(ErrorKind::OutOfMemory))
-            }
+            Err(_) => Err(self.unheld()),
         }
     }
 
