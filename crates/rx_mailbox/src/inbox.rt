@@ -6,7 +6,8 @@ ghost use Rattle.crossbeam_channel.specs.Claims.{view, IsSeatAt};
 ghost use Rattle.crossbeam_channel.specs.Ends.{receives_on};
 ghost use Rattle.rx_mailbox.specs.Batches.{carried};
 ghost use Rattle.rx_mailbox.specs.Boxes.{with_letter, HasBye, HasEachBye};
-ghost use Rattle.rx_mailbox.specs.Letters.{posts};
+ghost use Rattle.rx_mailbox.specs.Letters.{letter, posts};
+ghost use Rattle.rx_mailbox.specs.declared.letter.Post.TheVariants.{Body};
 ghost use Rattle.rx_mailbox.specs.Passes.{inbox_of, IsReader};
 ghost use Rattle.rx_mailbox.specs.Rests.{ReceivesMore};
 ghost use Rattle.rx_mailbox.specs.Settling.{letter_count};
@@ -116,7 +117,7 @@ impl<B: Drop> Inbox<B> {
         ensures port { IfOk result (λ letter. letter.from < self.old.ports) }
         ensures before_bye { IfOk result (λ letter. ¬ HasBye self.old letter.from) }
     {
-        if let Some(letter) = self.next_in_hand() {
+        if let Some(letter) = self.next_letter() {
             return Ok(letter);
         }
         let looks_at_most = self.patience.looks(LOOKS);
@@ -178,7 +179,7 @@ impl<B: Drop> Inbox<B> {
         ensures port { IfOk result (λ letter. letter.from < self.old.ports) }
         ensures before_bye { IfOk result (λ letter. ¬ HasBye self.old letter.from) }
     {
-        if let Some(letter) = self.next_in_hand() {
+        if let Some(letter) = self.next_letter() {
             return Ok(letter);
         }
         let looks_at_most = self.patience.looks(looks_at_most);
@@ -217,7 +218,7 @@ impl<B: Drop> Inbox<B> {
         ensures port { IfOk result (λ letter. letter.from < self.old.ports) }
         ensures before_bye { IfOk result (λ letter. ¬ HasBye self.old letter.from) }
     {
-        match self.next_in_hand() {
+        match self.next_letter() {
             Some(letter) => Ok(letter),
             None => self.look(rt),
         }
@@ -225,20 +226,36 @@ impl<B: Drop> Inbox<B> {
 
     // The next of the letters that came with another which was handed out, if one is left.
     #[inline(always)] // once for each letter
-    fn next_in_hand(&mut self) -> Option<Letter<B>>
+    fn next_letter(&mut self) -> Option<Letter<B>>
         ensures received { MatchOption result (self.new ≡ self.old) (λ letter. self.new ≡ with_letter self.old letter) }
 
         // It is from a port of the box whose Bye had not come.
         ensures port { IfSome result (λ letter. letter.from < self.old.ports) }
         ensures before_bye { IfSome result (λ letter. ¬ HasBye self.old letter.from) }
     {
+        match self.next_in_hand() {
+            Some((from, body)) => Some(Letter {
+                from,
+                post: Post::Body(body),
+            }),
+            None => None,
+        }
+    }
+
+    /// The port and the body of the next of the letters that came with another which was taken, if one is left: such a letter has
+    /// a body.
+    #[inline(always)] // the same
+    pub fn next_in_hand(&mut self) -> Option<(u32, B)>
+        ensures received { MatchOption result (self.new ≡ self.old) (λ next. self.new ≡ with_letter self.old (letter next.0 (Body next.1))) }
+
+        // It is from a port of the box whose Bye had not come.
+        ensures port { IfSome result (λ next. next.0 < self.old.ports) }
+        ensures before_bye { IfSome result (λ next. ¬ HasBye self.old next.0) }
+    {
         match self.hand.pop_front() {
             Some(body) => {
                 self.letters = self.letters.saturating_add(1);
-                Some(Letter {
-                    from: self.from,
-                    post: Post::Body(body),
-                })
+                Some((self.from, body))
             }
             None => None,
         }

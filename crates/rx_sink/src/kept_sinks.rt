@@ -171,8 +171,13 @@ fn end_act<S: Sink>(
     };
     if asks.leaves {
         let _parting = part(kept, away, place, true);
+        return asks;
     }
-    asks
+    Asks {
+        who: asks.who,
+        items: asks.items,
+        leaves: false,
+    }
 }
 
 // Moves the sink at this place to those that were put away. It answers that all is to be asked for that is due, and whether
@@ -220,8 +225,25 @@ fn push_away<S: Sink>(away: &mut Rests<S::Rest>, one: Kept<S>)
     away.push_reserved(PutAway { subject, who, rest });
 }
 
-// The place of the sink that is kept for an observer. It is looked for where it stood before.
+// The place of the sink that is kept for an observer. What one observer asked for goes to it together, so it is mostly the one that
+// was found before.
+#[inline(always)] // once for each note
 fn look<S: Sink>(kept: &[Kept<S>], places: &mut Places, subject: u32, who: u32) -> Option<usize>
+    ensures within { IfSome result (λ place. place < length kept.now) }
+    ensures found { IfSome result (λ place. IsKeptAt subject who place kept.now) }
+    ensures none { result ≡ None → position (is_for subject who) kept.now ≡ None }
+    ensures misses { places.new.misses ≡ places.old.misses }
+{
+    let last = places.last();
+    if last < kept.len() && is_kept_for(&kept[last], subject, who) {
+        return Some(last);
+    }
+    search(kept, places, subject, who)
+}
+
+// The same where it is another: it is looked for where it stood before.
+#[inline(never)] // once for each observer of an item
+fn search<S: Sink>(kept: &[Kept<S>], places: &mut Places, subject: u32, who: u32) -> Option<usize>
     ensures within { IfSome result (λ place. place < length kept.now) }
     ensures found { IfSome result (λ place. IsKeptAt subject who place kept.now) }
     ensures none { result ≡ None → position (is_for subject who) kept.now ≡ None }
@@ -229,10 +251,8 @@ fn look<S: Sink>(kept: &[Kept<S>], places: &mut Places, subject: u32, who: u32) 
 {
     let near = places.near(subject, who);
     let found = find(kept, near, subject, who);
-    if let Some(place) = found
-        && place != near
-    {
-        places.correct(subject, who, place);
+    if let Some(place) = found {
+        places.found(subject, who, near, place);
     }
     found
 }

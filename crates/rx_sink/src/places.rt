@@ -11,6 +11,8 @@ use rx_heap::{Heap, Memory};
 pub struct Places {
     misses: u64,
     spots: Spots,
+    // Where the sink stands that was found last.
+    last: usize,
 }
 
 impl Places {
@@ -21,6 +23,7 @@ impl Places {
         Places {
             misses: 0,
             spots: Spots::new(),
+            last: 0,
         }
     }
 
@@ -50,6 +53,11 @@ impl Places {
         grown
     }
 
+    // Where the sink stands that was found last, so long as no other went.
+    pub(crate) fn last(&self) -> usize {
+        self.last
+    }
+
     // Where the sink of an observer is looked for first.
     pub(crate) fn near(&mut self, subject: u32, who: u32) -> usize
         ensures { self.new.misses ≡ self.old.misses }
@@ -57,11 +65,14 @@ impl Places {
         self.spots.near(subject, who)
     }
 
-    // The sink that was looked for last stands at this place.
-    pub(crate) fn correct(&mut self, subject: u32, who: u32, place: usize)
+    // The sink that was looked for near here was found at this place.
+    pub(crate) fn found(&mut self, subject: u32, who: u32, near: usize, place: usize)
         ensures { self.new.misses ≡ self.old.misses }
     {
-        self.spots.correct(subject, who, place);
+        self.last = place;
+        if place != near {
+            self.spots.correct(subject, who, place);
+        }
     }
 
     // A sink came, and stands behind the others.
