@@ -7,7 +7,7 @@
 // At the leave port's Bye all sinks are put away even where a subject is gone, so that nothing of theirs is lost; only what
 // was sent is then cut short.
 ghost use Rattle.std.specs.Prelude.{◌≡◌, true, false, None, IfOk, MatchResult, OnOk, OnErr};
-ghost use Rattle.rx_mailbox.specs.declared.letter.Post.TheVariants.{Bye};
+ghost use Rattle.rx_mailbox.specs.declared.letter.Post.TheVariants.{Body, Bye};
 ghost use Rattle.rx_mailbox.specs.Boxes.{all_told, with_letter};
 ghost use Rattle.rx_mailbox.specs.Letters as letters;
 ghost use Rattle.rx_pump.specs.Pumps.{AreSame};
@@ -16,7 +16,7 @@ ghost use Rattle.rx_drain.specs.Drainers.{Fits, HasGoneOn, HandlesLetter, Handle
 use crate::drainer::asks::{holds_back, part_all, send_asks, would_wake};
 use crate::drainer::bursts::Bursts;
 use crate::drainer::flushes::{flush_due, flush_last, look_after, may_wait};
-use crate::drainer::outs::{finish_unserved, into_sink, serve_out};
+use crate::drainer::outs::{discard, serve_out};
 use crate::{DrainFault, DrainerLeft, DrainerParts};
 use rx_heap::Heap;
 use rx_mailbox::{Gone, Letter, Port, Post, TryRecvFault, finish_all, nudge_all, try_ring_all};
@@ -52,6 +52,7 @@ pub(crate) struct AfterLetter {
 }
 
 // Does what a letter asks. `leave` is the number of the leave port, and `left` says whether its Bye came before.
+#[inline(never)] // once for each batch
 pub(crate) fn handle<S: Sink, R: Wait>(
     rt: &R,
     hands: &mut DrainerLeft<S>,
@@ -67,15 +68,34 @@ pub(crate) fn handle<S: Sink, R: Wait>(
     ensures handles { HandlesLetter S.acts letter (view_of hands.old left None) (view_of hands.new result.left result.fault) }
 {
     let Letter { from, post } = letter;
-    let out = match post {
-        Post::Bye => return hear_bye(rt, hands, leave, left, from),
-        Post::Body(out) => out,
-    };
+    match post {
+        Post::Body(out) => handle_out(rt, hands, leave, left, from, out),
+        Post::Bye => hear_bye(rt, hands, leave, left, from),
+    }
+}
+
+// Does what a letter from this port asks that has this body.
+#[inline(always)] // once for each note
+fn handle_out<S: Sink, R: Wait>(
+    rt: &R,
+    hands: &mut DrainerLeft<S>,
+    leave: usize,
+    left: bool,
+    from: u32,
+    out: Out<S>,
+) -> AfterLetter
+    requires { Fits leave left None hands.old }
+    ensures fits { Fits leave result.left result.fault hands.new }
+    ensures inbox { hands.new.parts.inbox ≡ hands.old.parts.inbox }
+    ensures ports { AreSame (view_of hands.old left None).ports (view_of hands.new result.left result.fault).ports }
+    ensures keeps { hands.new.put_away.keeps ≡ hands.old.put_away.keeps }
+    ensures handles { HandlesNext S.acts (letters.letter from (Body out)) (view_of hands.old left None) (view_of hands.new result.left result.fault) }
+{
     if left || from as usize == leave {
-        let _rest = finish_unserved(into_sink(out));
+        discard(out);
         return AfterLetter { left, fault: None };
     }
-    let (asks, unserved) = serve_out(
+    let asks = serve_out(
         &mut hands.kept,
         &mut hands.put_away,
         &mut hands.places,
@@ -83,7 +103,6 @@ pub(crate) fn handle<S: Sink, R: Wait>(
         from,
         out,
     );
-    let _rest = finish_unserved(unserved);
     let fault = send_asks(rt, &mut hands.parts.subjects, from, asks);
     AfterLetter { left, fault }
 }
@@ -187,16 +206,20 @@ pub(crate) fn handle_more<S: Sink, R: Wait>(
         if now.fault.is_some() {
             return now;
         }
-        let Ok(letter) = receive_more(rt, &mut hands.parts, bursts, sinks, count) else {
-            return now;
+        pass_on(rt, &mut hands.parts.subjects, count);
+        now = match hands.parts.inbox.next_in_hand() {
+            Some((from, out)) => handle_out(rt, hands, leave, now.left, from, out),
+            None => match receive_more(rt, &mut hands.parts, bursts, sinks, count) {
+                Ok(letter) => handle(rt, hands, leave, now.left, letter),
+                Err(_) => return now,
+            },
         };
-        now = handle(rt, hands, leave, now.left, letter);
     }
     now
 }
 
 // Takes the letter that comes next, and waits for none but within a burst.
-#[inline(always)] // once for each letter
+#[inline(never)] // once for each batch
 fn receive_more<S: Drop, R: Wait>(
     rt: &R,
     parts: &mut DrainerParts<S>,
@@ -207,7 +230,6 @@ fn receive_more<S: Drop, R: Wait>(
     ensures received { MatchResult result (λ letter. parts.new.inbox ≡ with_letter parts.old.inbox letter) (λ _. parts.new.inbox ≡ parts.old.inbox) }
     ensures subjects { all_told parts.new.subjects.items ≡ all_told parts.old.subjects.items }
 {
-    pass_on(rt, &mut parts.subjects, letters);
     match parts.inbox.try_recv(rt) {
         Ok(letter) => Ok(letter),
         Err(fault) => await_more(rt, parts, bursts, sinks, letters, fault),

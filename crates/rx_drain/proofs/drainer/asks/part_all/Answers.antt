@@ -1,5 +1,5 @@
 use Rattle.std.proofs.Common.{◌∙◌, sym, subst, ℕ, true, map, arith}
-use Rattle.rx_pump.specs.Opened.{all_opened, opened_ports}
+use Rattle.rx_pump.specs.Opened.{all_opened}
 use Rattle.rx_sink.specs.KeptSinks.{events_asked}
 use Rattle.rx_drain.specs.Calls.{SendsEvents}
 use Rattle.rx_drain.proofs.Events.{disposed_more, disposed_some, disposed_all}

@@ -1,5 +1,5 @@
 use Rattle.std.proofs.Common.{take}
-use Rattle.rx_pump.specs.Opened.{all_opened, opened_ports}
+use Rattle.rx_pump.specs.Opened.{all_opened}
 use Rattle.rx_mailbox.specs.PortRows.{Puts}
 use Rattle.rx_drain.specs.Calls.{calls_to, partings_of}
 use Rattle.rx_drain.proofs.drainer.asks.part_all.Given as goal

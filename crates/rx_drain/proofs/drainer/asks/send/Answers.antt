@@ -1,5 +1,4 @@
 use Rattle.std.proofs.Common.{◌∷◌, arith}
-use Rattle.rx_mailbox.specs.Boxes.{all_told}
 use Rattle.rx_pump.specs.Opened.{all_opened}
 use Rattle.rx_pump.proofs.Asking.{opened-length}
 use Rattle.rx_drain.proofs.Events.{SendsEvents-sent, SendsEvents-no_port, SendsEvents-back}

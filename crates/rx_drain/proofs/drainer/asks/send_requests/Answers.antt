@@ -1,4 +1,4 @@
-use Rattle.std.proofs.Common.{◌≡◌, ◌∙◌, sym, ap, subst, ℕ, suc, ◌-◌, None, List, ◌∷◌, map, replicate, arith}
+use Rattle.std.proofs.Common.{◌≡◌, ◌∙◌, sym, ap, subst, ℕ, suc, ◌-◌, None, ◌∷◌, map, replicate, arith}
 use Rattle.rx_note.specs.declared.event.Event.TheVariants.{Request}
 use Rattle.rx_pump.specs.Opened.{all_opened, ask}
 use Rattle.rx_drain.specs.Calls.{SendsEvents, call}

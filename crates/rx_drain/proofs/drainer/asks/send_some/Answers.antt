@@ -1,9 +1,8 @@
 use Rattle.std.proofs.Common.{◌≡◌, ◌∙◌, sym, subst, ℕ, ◌+◌, ◌-◌, if◌then◌else◌, Bool, List, [], ◌∷◌, ◌++◌, replicate, None, arith}
 use Rattle.rx_note.specs.declared.event.Event.{Event}
 use Rattle.rx_note.specs.declared.event.Event.TheVariants.{Request, Dispose}
-use Rattle.rx_mailbox.specs.PortRows.{Puts}
 use Rattle.rx_pump.specs.Opened.{all_opened}
-use Rattle.rx_drain.specs.Calls.{SendsEvents, calls_to}
+use Rattle.rx_drain.specs.Calls.{SendsEvents}
 use Rattle.rx_drain.proofs.Events.{to, requested_first, requested_then, requested_all, sent_none, requested, SendsEvents-none}
 use Rattle.rx_drain.proofs.drainer.asks.send_some.Goals as goal
 

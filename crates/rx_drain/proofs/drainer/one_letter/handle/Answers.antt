@@ -1,47 +1,9 @@
-use Rattle.std.proofs.Common.{◌≡◌, ◌==◌, false, refl, ap, length, length-append, map, ◌++◌, None, eq-eqb, arith}
-use Rattle.std.proofs.lemmas.Bool.{ne_eqb}
-use Rattle.std.proofs.lemmas.List.{length-map}
-use Rattle.rx_pump.specs.Opened.{all_opened, opened_port, opened_ports}
-use Rattle.rx_pump.proofs.Asking.{opened-length}
-use Rattle.rx_sink.specs.KeptSinks.{events_asked}
-use Rattle.rx_drain.proofs.Standing.{same_sent, of_sent, stands_served, stands_idle_left, stands_idle_leave, handles_body, handles_next}
-use Rattle.rx_drain.specs.Drainers.{view_of}
-use Rattle.rx_sink.specs.declared.flow.Flow.TheVariants.{Clear}
-use Rattle.rx_sink.specs.Attachments.{Fine}
-use Rattle.rx_drain.proofs.drainer.one_letter.handle.Goals.{then-left-via-then-left, then-left-via-else-left+then-from-leave}
+use Rattle.rx_drain.proofs.Standing.{handles_body, handles_bye, handles_next}
 use Rattle.rx_drain.proofs.drainer.one_letter.handle.Goals as goal
 
-pub returns-then-left-clause-handles : goal.returns-then-left-clause-handles
-returns-then-left-clause-handles g c =
-    let ended = opened_ports c.args.hands.now.ended.items in
-    let a = all_opened c.args.hands.now.parts.subjects.items in
-    let n = length (ended ++ a) in
-    let view = view_of c.args.hands.now c.args.left None in
-    let leave_is : c.args.leave ≡ n = omega (arith, c.requires.leave_is, length-append ended a, length-map c.args.hands.now.ended.items opened_port, opened-length c.args.hands.now.parts.subjects.items) in
-    elim c.then-left.branch [
-      | then-left-via-then-left w ↦ handles_next g.S.Sink.acts c.args.letter view view (tt, λ log s. (Fine Clear, stands_idle_left g.S.Sink.acts n log c.args.letter view w.if-left.true s))
-      | then-left-via-else-left+then-from-leave w ↦
-          handles_body g.S.Sink.acts c.args.letter c.in-Body.out view view c.in-Body.is (handles_next g.S.Sink.acts _ view view (
-            tt,
-            λ log s. (
-              Fine Clear,
-              stands_idle_leave g.S.Sink.acts n log c.args.letter.from c.in-Body.out view w.if-left.false (eq-eqb c.args.letter.from n (omega (arith, w.if-from-leave.true, leave_is))) s,
-            ),
-          ))
-    ]
+pub returns-in-Body-clause-handles : goal.returns-in-Body-clause-handles
+returns-in-Body-clause-handles g c =
+    handles_body g.S.Sink.acts c.args.letter c.in-Body.out _ _ c.in-Body.is (handles_next g.S.Sink.acts _ _ _ c.handle_out.ensures.handles)
 
-pub returns-clause-ports : goal.returns-clause-ports
-returns-clause-ports g c =
-    same_sent c.send_asks-fault.result (map (λ event. (c.args.letter.from, event)) (events_asked c.serve_out-unserved.result.0)) (opened_ports c.args.hands.now.ended.items) (all_opened c.args.hands.now.parts.subjects.items) (all_opened c.send_asks-fault.new.subjects.items) c.send_asks-fault.ensures
-
-pub returns-clause-handles : goal.returns-clause-handles
-returns-clause-handles g c =
-    let ended = opened_ports c.args.hands.now.ended.items in
-    let a = all_opened c.args.hands.now.parts.subjects.items in
-    let leave_is : c.args.leave ≡ length (ended ++ a) = omega (arith, c.requires.leave_is, length-append ended a, length-map c.args.hands.now.ended.items opened_port, opened-length c.args.hands.now.parts.subjects.items) in
-    let test : (c.args.letter.from == length (ended ++ a)) ≡ false = ne_eqb c.args.letter.from (length (ended ++ a)) (λ same. c.if-from-leave.false (omega (arith, same, leave_is))) in
-    handles_body g.S.Sink.acts c.args.letter c.in-Body.out _ _ c.in-Body.is (handles_next g.S.Sink.acts _ _ _ (
-      of_sent c.send_asks-fault.result (map (λ event. (c.args.letter.from, event)) (events_asked c.serve_out-unserved.result.0)) a (all_opened c.send_asks-fault.new.subjects.items) c.send_asks-fault.ensures,
-      λ log s. stands_served g.S.Sink.acts (length (ended ++ a)) log c.args.letter.from c.in-Body.out _ _ ended a (all_opened c.send_asks-fault.new.subjects.items) (events_asked c.serve_out-unserved.result.0) c.serve_out-unserved.result.1
-          (ap opened_ports (c.requires.open_ports c.if-left.false)) refl refl c.if-left.false c.if-left.false refl test c.serve_out-unserved.ensures.serves c.send_asks-fault.ensures s,
-    ))
+pub returns-in-Bye-clause-handles : goal.returns-in-Bye-clause-handles
+returns-in-Bye-clause-handles g c = handles_bye g.S.Sink.acts c.args.letter _ _ c.in-Bye.is c.hear_bye.ensures.handles
