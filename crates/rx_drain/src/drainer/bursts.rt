@@ -23,6 +23,8 @@ pub(crate) struct Bursts {
     most: u32,
     // Behind how many bursts it waited for nothing since.
     short: u32,
+    // How many letters of this turn had come when more came for which it waited.
+    seen: u32,
 }
 
 impl Bursts {
@@ -30,22 +32,31 @@ impl Bursts {
         Bursts {
             most: u32::MAX,
             short: 0,
+            seen: 0,
         }
     }
 
-    /// Whether more may come behind so many letters to so many sinks.
+    /// Whether more may come behind so many letters of this turn to so many sinks. Behind each wait as many have to come as make a
+    /// burst before the next.
     pub(crate) fn may_go_on(&self, letters: u32, sinks: usize) -> bool {
-        is_burst(letters, sinks) && letters < self.most
+        is_burst(letters.saturating_sub(self.seen), sinks) && letters < self.most
+    }
+
+    /// Learns that more came for which it waited behind so many letters.
+    pub(crate) fn went_on(&mut self, letters: u32) {
+        self.seen = letters;
     }
 
     /// Learns that it waited in vain behind so many letters.
     pub(crate) fn waited(&mut self, letters: u32) {
         self.most = letters;
         self.short = 0;
+        self.seen = 0;
     }
 
     /// Learns that a turn ended behind so many letters to so many sinks, and did not wait.
     pub(crate) fn ended(&mut self, letters: u32, sinks: usize) {
+        self.seen = 0;
         if !is_burst(letters, sinks) {
             return;
         }

@@ -268,7 +268,9 @@ fn await_more<S: Drop, R: Wait>(
     let received = parts
         .inbox
         .recv_within(rt, Duration::from_micros(MOST_PAUSE));
-    if received.is_err() {
+    if received.is_ok() {
+        bursts.went_on(letters);
+    } else {
         bursts.waited(letters);
     }
     received
