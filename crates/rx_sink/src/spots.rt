@@ -1,5 +1,5 @@
-// The search for a kept sink begins where it stood when it was looked for last (`rx_sink`'s `Spots`, in `Places`), and goes
-// down from there, since those behind a sink that goes move down. The spots stand by rising subject and number, as the notes
+// The sink that was found last is looked at before any (`Places::last`). The search for another begins where it stood when it was
+// looked for last (`rx_sink`'s `Spots`, in `Places`), and goes down from there, since those behind a sink that goes move down. The spots stand by rising subject and number, as the notes
 // of an item come, so the one behind the last is tried first, and then halving. They are no part of what is proved: any place
 // is right to begin at. The room for a spot is made with the place of its sink (`Places::grow`), so want of memory for it is
 // told like any other. Nor are they kept exact: a sink that goes leaves its spot behind, and the stale ones are let go once

@@ -3,7 +3,8 @@
 // A drainer waits a tenth of a millisecond within a burst (`Bursts`). What it asks for behind one part of a burst brings the
 // next, while a flush wakes a peer for each sink, which takes longer than all that a few letters take. So behind 64 letters or
 // more, and four or more for each sink, it has the requests go and waits before it flushes; not behind as many letters as it
-// last waited in vain, but once in 16 bursts. Where cores are few the subject sleeps until the drainer does: on one core 64
+// last waited in vain, but once in 16 bursts. Behind a wait as many have to come again before the next, so that notes which come
+// one by one go out. Where cores are few the subject sleeps until the drainer does: on one core 64
 // lines at a time so bring 8 subscribers a third more, and 64 of them a half. Where each has a core of its own one write has
 // three times as many notes to 8 subscribers, and a note takes a sixth less processor time.
 
