@@ -70,6 +70,8 @@ impl<W: Write + Drop, C: Clock + Drop> Drop for Gathering<W, C> {
 }
 
 impl<W: Write + Drop, C: Clock + Drop> Gathering<W, C> {
+    ghost use Rattle.std.specs.Io.KnownBytes.{append_known};
+
     /// Nothing waits yet. Where the peer is given up it is counted among the notices; but not where the time of a stop is over, when
     /// nothing waits for it any longer.
     pub(crate) fn new(
@@ -110,23 +112,28 @@ impl<W: Write + Drop, C: Clock + Drop> Gathering<W, C> {
         }
     }
 
-    // Writes what can't wait here: what waits goes before it.
+    // Whether so many bytes more are to wait: neither a whole block that nothing waits before, nor more than may wait.
+    #[inline(always)] // once for each line
+    fn holds(&self, count: usize) -> bool {
+        let waiting = self.waiting.len();
+        (waiting > 0 || count < BLOCK) && waiting.saturating_add(count) <= MOST_WAITING
+    }
+
+    // Writes what is not to wait here, behind what waits; or it was to, and there was no memory for it.
     #[inline(never)] // rare, and a short line makes no room for its faults
-    fn write_on(&mut self, bytes: &[u8]) -> io::Result<usize>
+    fn write_past(&mut self, bytes: &[u8]) -> io::Result<usize>
         ensures bound { WritesAtMost result bytes.now }
         ensures bytes { WriteAppends (append_known (W.contents self.old.wire) self.old.waiting.items) (append_known (W.contents self.new.wire) self.new.waiting.items) result bytes.now }
     {
-        if !self.waiting.is_empty() {
-            self.flush()?;
+        if self.holds(bytes.len()) {
+            self.count(Cause::Unheld);
+            return Err(io::Error::from(ErrorKind::OutOfMemory));
         }
+        if self.waiting.is_empty() {
+            return write_block(&mut self.wire, bytes);
+        }
+        self.flush()?;
         write_block(&mut self.wire, bytes)
-    }
-
-    // The fault where there is no memory for what is to wait.
-    #[inline(never)] // the same
-    fn unheld(&self) -> io::Error {
-        self.count(Cause::Unheld);
-        io::Error::from(ErrorKind::OutOfMemory)
     }
 
     // Its socket took all.
@@ -175,15 +182,10 @@ impl<W: Write + Drop, C: Clock + Drop> Write for Gathering<W, C> {
     ghost contents = { λ g. append_known (W.contents g.wire) g.waiting.items };
 
     fn write(&mut self, bytes: &[u8]) -> io::Result<usize> {
-        if self.waiting.is_empty() && bytes.len() >= BLOCK
-            || self.waiting.len().saturating_add(bytes.len()) > MOST_WAITING
-        {
-            return self.write_on(bytes);
+        if self.holds(bytes.len()) && self.waiting.extend_from_slice(bytes).is_ok() {
+            return Ok(bytes.len());
         }
-        match self.waiting.extend_from_slice(bytes) {
-            Ok(()) => Ok(bytes.len()),
-            Err(_) => Err(self.unheld()),
-        }
+        self.write_past(bytes)
     }
 
     fn flush(&mut self) -> io::Result<()>

@@ -50,10 +50,10 @@ impl<C: Clock + Drop> Outgoing<C> {
 
 impl<C: Clock + Drop> Write for Outgoing<C> {
     fn write(&mut self, bytes: &[u8]) -> io::Result<usize> {
-        self.held.write(bytes)
+        (*self.held).write(bytes)
     }
 
     fn flush(&mut self) -> io::Result<()> {
-        self.held.flush()
+        (*self.held).flush()
     }
 }
