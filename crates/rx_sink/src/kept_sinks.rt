@@ -173,6 +173,7 @@ fn end_act<S: Sink>(
         let _parting = part(kept, away, place, true);
         return asks;
     }
+    // Part by part: an answer that is moved whole is loaded in other sizes than it was stored in, and the processor waits for that.
     Asks {
         who: asks.who,
         items: asks.items,
