@@ -21,6 +21,12 @@ pub(crate) const SHORT_LINE: usize = 84;
 /// The most bytes of a short text.
 pub(crate) const SHORT_TEXT: usize = 56;
 
+/// The most bytes of the line of a note with a text of middling length, in both versions.
+pub(crate) const MIDDLING_LINE: usize = 284;
+
+/// The most bytes of a text of middling length.
+pub(crate) const MIDDLING_TEXT: usize = 256;
+
 // The most bytes of what stands before its text there: two numbers of 32 bits, each with a space.
 const ORIGIN: usize = 22;
 

@@ -1,11 +1,12 @@
 // Lines, written to a writer.
-ghost use Rattle.std.specs.Prelude.{◌++◌};
+ghost use Rattle.std.specs.Prelude.{◌++◌, ◌≤◌, length};
 ghost use Rattle.rx_proto.specs.Bytes.{Writes};
 ghost use Rattle.rx_proto.specs.Printing.{joined_line, line, note_line, reply_line};
 
 use crate::line_bytes::LineBytes;
 use crate::printer::{
-    SHORT_LINE, SHORT_TEXT, item_origin, joined_line, put_note, put_placed, reply_line, text_len,
+    MIDDLING_LINE, MIDDLING_TEXT, SHORT_LINE, SHORT_TEXT, item_origin, joined_line, put_note,
+    put_placed, reply_line, text_len,
 };
 use crate::{Response, Version};
 use rx_note::{Item, Note, Text};
@@ -53,13 +54,28 @@ pub fn write_note<W: Write>(writer: &mut W, note: &Note, version: Version) -> Re
 fn write_plain<W: Write>(writer: &mut W, note: &Note) -> Result<(), WriteFault>
     ensures { Writes result (W.contents writer.old) (W.contents writer.new) (note_line Version.One note.now) }
 {
-    if text_len(note) <= SHORT_TEXT {
+    let len = text_len(note);
+    if len <= SHORT_TEXT {
         let mut line = LineBytes::<SHORT_LINE>::new();
         put_note(&mut line, note);
         write_bytes(writer, line.as_bytes())
+    } else if len <= MIDDLING_TEXT {
+        write_middling(writer, note)
     } else {
         write_long(writer, note)
     }
+}
+
+// Writes the line of a note with a text of middling length in the first version. It is put together as well: a writer that gathers
+// takes longer for three writes than the text to be copied twice.
+#[inline(never)] // so that a short one makes no room for it
+fn write_middling<W: Write>(writer: &mut W, note: &Note) -> Result<(), WriteFault>
+    requires { length (note_line Version.One note.now) ≤ 284 }
+    ensures { Writes result (W.contents writer.old) (W.contents writer.new) (note_line Version.One note.now) }
+{
+    let mut line = LineBytes::<MIDDLING_LINE>::new();
+    put_note(&mut line, note);
+    write_bytes(writer, line.as_bytes())
 }
 
 // Writes the line of a note with a long text in the first version. Its bytes go to the writer from where they stand.

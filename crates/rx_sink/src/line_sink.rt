@@ -13,8 +13,9 @@ use std::io::{ErrorKind, Write};
 /// that the writer took is gone for this sink, in which nothing ever waits; but over a writer that gathers what it is given
 /// (`gathering`) it tells by the writer's flush whether something waits there.
 ///
-/// A line whose text has up to 56 bytes is put together on the stack and written whole, by one `write` where the writer takes it at
-/// once; that of a longer text by three, or four in the second version. A sink holds no line, since it travels in letters.
+/// A line whose text has up to 256 bytes, 56 in the second version, is put together on the stack and written whole, by one `write`
+/// where the writer takes it at once; that of a longer text by three, or four in the second version. A sink holds no line, since it
+/// travels in letters.
 #[derive(Drop)]
 pub struct LineSink<W: Write + Drop> {
     writer: W,
