@@ -6,7 +6,7 @@ use Rattle.rx_note.specs.Choices.{Choice, choice}
 use Rattle.rx_note.specs.declared.errors.Errors.{Errors}
 use Rattle.rx_note.specs.declared.errors.Errors.TheVariants.{Ahead, Delay}
 use Rattle.rx_proto.specs.Names.{IsName}
-use Rattle.rx_http.specs.Asking.{AsksAt, AsksForEmission, AsksForEvents, AsksForItem, AsksForItems, AsksForRequest, AsksForStop, AsksForTexts, HasWords, HeadAsksForOne, NamesSubject, NamesTexts, Nowhere, Route, SaysItems, SaysObserver, SaysSome, SaysSomeKey, SaysStop, ToEmission, ToEvents, ToHealth, ToItem, ToLook, ToRequest, ToStop, known_word}
+use Rattle.rx_http.specs.Asking.{AsksAt, AsksForEmission, AsksForEvents, AsksForItem, AsksForRequest, AsksForStop, AsksForTexts, HasWords, HeadAsksForOne, NamesSubject, NamesTexts, Nowhere, Route, SaysItems, SaysObserver, SaysRequest, SaysSome, SaysSomeKey, SaysStop, ToEmission, ToEvents, ToHealth, ToItem, ToLook, ToRequest, ToStop, known_word}
 use Rattle.rx_http.specs.Bodies.{HasSize}
 use Rattle.rx_http.specs.Ids.{id_of, over_word, place_digits}
 use Rattle.rx_http.specs.Keys.{SaysKey}
@@ -342,7 +342,7 @@ Grants name word query NoObserver = (observer : ObserverId) → SaysObserver wor
 Grants name word query NoItems = ((observer : ObserverId) × SaysObserver word observer) × ((items : ℕ) → SaysItems query items → ⊥)
 Grants name word query NoSuch = ((observer : ObserverId) × SaysObserver word observer) × ((items : ℕ) × SaysItems query items) × (IsName name → ⊥)
 
-granted : (name word query : List ℕ) (result : Result Asked Refusal) → AsksForItems name word query result → (g : Grant) × (result ≡ granted_by name g) × Grants name word query g
+granted : (name word query : List ℕ) (result : Result Asked Refusal) → SaysRequest name word query result → (g : Grant) × (result ≡ granted_by name g) × Grants name word query g
 unfolding granted_by Grants
 granted name word query (Ok (Request subject observer items)) asks =
     (Granted observer items, ap (λ s. Ok (Request s observer items)) asks.3, (asks.0, asks.1, asks.2))

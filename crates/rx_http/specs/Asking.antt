@@ -114,17 +114,17 @@ SaysItems query items = IsNumber items × (items_word query ≡ decimal items)
 
 -- what is asked for of the observer of this word at the subject of this name, or the first cause for which it is refused: the word of the
 -- observer, how many items, the name
-abbrev pub AsksForItems : List ℕ → List ℕ → List ℕ → Result Asked Refusal → Type 0
-AsksForItems name word query (Ok (Request subject observer items)) = SaysObserver word observer × SaysItems query items × IsName name × (subject ≡ name)
-AsksForItems name word query (Err causes.Observer) = (observer : ObserverId) → SaysObserver word observer → ⊥
-AsksForItems name word query (Err causes.Items) = ((observer : ObserverId) × SaysObserver word observer) × ((items : ℕ) → SaysItems query items → ⊥)
-AsksForItems name word query (Err causes.Subject) =
+abbrev pub SaysRequest : List ℕ → List ℕ → List ℕ → Result Asked Refusal → Type 0
+SaysRequest name word query (Ok (Request subject observer items)) = SaysObserver word observer × SaysItems query items × IsName name × (subject ≡ name)
+SaysRequest name word query (Err causes.Observer) = (observer : ObserverId) → SaysObserver word observer → ⊥
+SaysRequest name word query (Err causes.Items) = ((observer : ObserverId) × SaysObserver word observer) × ((items : ℕ) → SaysItems query items → ⊥)
+SaysRequest name word query (Err causes.Subject) =
     ((observer : ObserverId) × SaysObserver word observer) × ((items : ℕ) × SaysItems query items) × (IsName name → ⊥)
-AsksForItems name word query other = ⊥
+SaysRequest name word query other = ⊥
 
 -- the same, where it may be that a page of another site asks for it
 abbrev pub AsksForRequest : List ℕ → List ℕ → List ℕ → Bool → Result Asked Refusal → Type 0
-AsksForRequest name word query foreign result = MatchBool foreign (result ≡ Err causes.Origin) (AsksForItems name word query result)
+AsksForRequest name word query foreign result = MatchBool foreign (result ≡ Err causes.Origin) (SaysRequest name word query result)
 
 -- what is asked for of a server that is to stop, or the first cause for which it is refused: how long it waits is no such number
 abbrev pub SaysStop : List ℕ → Result Asked Refusal → Type 0

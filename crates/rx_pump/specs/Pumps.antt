@@ -1,16 +1,16 @@
 -- A pump, and what it has done with the letters that it received (this project's own rule).
 --
 -- The pump's history: After each turn there are marks for the letters for which those stand that were received, such that the
--- hub stands for the history of the bodies made; `refused` are refused, as many as the hub's count of Memory answers rose by, each only where the core
--- accepts the event at its place and it is no Dispose; each drainer port's own list is its route, each reply port's its
--- replies; `calls` is the number of bodies (counts stay at the greatest u64). `serve` adds a Bye to each once the Bye of each
--- of its ports came, and takes no letter where they had come before. After a fault the pump does nothing more.
+-- hub stands for the history of the bodies made; `refused` are refused, as many as the hub's count of Memory answers rose by,
+-- each only where the core accepts the event at its place and it is no Dispose; each drainer port's own list is its route, each
+-- reply port's its replies; `calls` is the number of bodies (counts stay at the greatest u64). `serve` adds a Bye to each once
+-- the Bye of each of its ports came, and takes no letter where they had come before. After a fault the pump does nothing more.
 --
 -- A pump's fault: `InboxGone`: the turn received nothing, and all was put; where a pump serves that had no fault, a Bye had
 -- not come. `DrainerGone`: of what the letter received last sends, with all for which it stands, all was put that comes before
 -- an out for the drainer that is named, nothing from there on, and no reply to that letter. `CallerGone`: all was put but the reply
--- to the last letter, which is for the caller that is named. Or the ports were to end, in their order: all was put, those before the one that is named
--- have ended, and no other (`HavePutUpTo`, `PumpStops` of `Serving.antt`)
+-- to the last letter, which is for the caller that is named. Or the ports were to end, in their order: all was put, those before
+-- the one that is named have ended, and no other (`HavePutUpTo`, `PumpStops` of `Serving.antt`)
 use Rattle.std.specs.Prelude.{◌≡◌, ◌+◌, ◌-◌, ◌^◌, ◌<◌, ◌%◌, min, ℕ, zero, suc, List, [], ◌∷◌, ◌++◌, length, map, Option, Some, None, slice_get}
 use Rattle.std.specs.List.{All}
 use Rattle.rx_history.specs.Histories.{NoEvents}
