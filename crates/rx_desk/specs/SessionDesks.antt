@@ -84,7 +84,7 @@ pub record KeepsSession {M S : Type 0} (before after : SessionView M S) : Type 0
 module _ {W : Type 0} where
   -- the sink over a writer that writes its notes in a version, and wrote nothing yet
   abbrev pub line_sink : Version → W → LineSink W
-  line_sink version writer = record { writer = writer; version = version; notes = 0; faults = 0; gathers = true; ahead = 0; stuck = false }
+  line_sink version writer = record { writer = writer; version = version; notes = 0; faults = 0; gathers = true; ahead = 0; stuck = false; far = false }
 
   -- the writer of the sink that came back, with a response; without one it is taken
   abbrev pub back_with : Response → Option (ClientSink W) → Follow W

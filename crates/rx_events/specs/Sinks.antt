@@ -72,7 +72,7 @@ event_acts contents = record {
       × (t.notes ≡ s.notes) × (t.faults ≡ s.faults) × (t.ahead ≡ s.ahead) × (t.stuck ≡ s.stuck) × (t.asker ≡ s.asker);
   start_faulted = λ s who t. AppendsPrefix (contents s.writer) (contents t.writer) (begin_bytes s.epoch s.begin s.standing.known who)
       × (t.notes ≡ s.notes) × (t.faults ≡ raised s.faults);
-  took = λ s note flow t. (flow ≡ held_by (holds t.asker) (flow_behind s.gathers t.stuck t.ahead)) × Appends (contents s.writer) (contents t.writer) (told_bytes s.epoch (note_events s.standing note))
+  took = λ s note flow t. (flow ≡ held_by (holds t.asker) (flow_behind s.gathers t.stuck false t.ahead)) × Appends (contents s.writer) (contents t.writer) (told_bytes s.epoch (note_events s.standing note))
       × Stays s t × (t.standing ≡ standing_after s.standing note) × (t.notes ≡ raised s.notes) × (t.faults ≡ s.faults)
       × (t.ahead ≡ ahead_after (is_told s.standing note) s.gathers s.ahead) × (t.stuck ≡ stuck_after s.gathers s.tempo (is_told s.standing note) note s.stuck) × (t.asker ≡ asker_after s.asker note (is_told s.standing note));
   take_faulted = λ s note t. AppendsPrefix (contents s.writer) (contents t.writer) (told_bytes s.epoch (note_events s.standing note))

@@ -156,13 +156,13 @@ impl<W: Write + Drop> EventSink<W> {
 
     // How it stands once a note was told, or passed over, by which what is due isn't held back: what was passed over isn't counted.
     fn flow(&mut self, told: bool) -> Flow
-        ensures answer { result ≡ flow_behind self.old.gathers self.old.stuck self.new.ahead }
+        ensures answer { result ≡ flow_behind self.old.gathers self.old.stuck false self.new.ahead }
         ensures rest { self.new ≡ record self.old { ahead = ahead_after told self.old.gathers self.old.ahead } }
     {
         if self.gathers && told {
             self.ahead = self.ahead.saturating_add(1);
         }
-        Flow::behind(self.gathers, self.stuck, self.ahead)
+        Flow::behind(self.gathers, self.stuck, false, self.ahead)
     }
 
     /// The writer of a sink that came back.

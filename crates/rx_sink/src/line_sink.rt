@@ -1,12 +1,15 @@
 // A sink's line is put together on the stack and written by one `write`, since sinks travel in letters and a buffer in them
 // would be moved with each. That of a long text goes in pieces, its text from where it stands.
-ghost use Rattle.std.specs.Prelude.{◌≡◌, true, false};
-ghost use Rattle.rx_sink.specs.Kinds.{ahead_with_one, flow_behind};
+ghost use Rattle.std.specs.Prelude.{◌≡◌, ◌&&◌, true, false};
+ghost use Rattle.rx_sink.specs.Kinds.{ahead_with_one, flow_behind, has_short_text};
 
 use crate::{Flow, LineRest, Sink, SinkFault};
 use rx_note::Note;
 use rx_proto::{Version, write_joined, write_note};
 use std::io::{ErrorKind, Write};
+
+// The most bytes of a short text.
+const SHORT_TEXT: usize = 56;
 
 /// A sink that writes a line when it is started, `JOINED` and the number of the observer, and then the line of each note
 /// in its version. A write that fails or takes no byte is a fault; the writer then has a front of the line. So is a flush that fails. A line
@@ -29,12 +32,14 @@ pub struct LineSink<W: Write + Drop> {
     gathers: bool,
     // A flush found that something waits which can't go out.
     stuck: bool,
+    // Lines may be far ahead: the last two flushes found that nothing waits, and each line since has a short text.
+    far: bool,
 }
 
 impl<W: Write + Drop> LineSink<W> {
     /// A sink that wrote nothing yet.
     pub fn new(writer: W, version: Version) -> LineSink<W>
-        ensures { result ≡ record { writer = writer; version = version; notes = 0; faults = 0; gathers = false; ahead = 0; stuck = false } }
+        ensures { result ≡ record { writer = writer; version = version; notes = 0; faults = 0; gathers = false; ahead = 0; stuck = false; far = false } }
     {
         LineSink {
             writer,
@@ -44,13 +49,14 @@ impl<W: Write + Drop> LineSink<W> {
             gathers: false,
             ahead: 0,
             stuck: false,
+            far: false,
         }
     }
 
     /// A sink over a writer that may gather what it is given, and waits for nobody: what can't go out yet waits in it, and its
     /// flush is then `WouldBlock`, or Ok where nothing waits. The sink wrote nothing yet.
     pub fn gathering(writer: W, version: Version) -> LineSink<W>
-        ensures { result ≡ record { writer = writer; version = version; notes = 0; faults = 0; gathers = true; ahead = 0; stuck = false } }
+        ensures { result ≡ record { writer = writer; version = version; notes = 0; faults = 0; gathers = true; ahead = 0; stuck = false; far = false } }
     {
         LineSink {
             writer,
@@ -60,18 +66,20 @@ impl<W: Write + Drop> LineSink<W> {
             gathers: true,
             ahead: 0,
             stuck: false,
+            far: false,
         }
     }
 
-    // How it stands once one line more was written.
-    fn flow(&mut self) -> Flow
-        ensures answer { result ≡ flow_behind self.old.gathers self.old.stuck self.new.ahead }
-        ensures rest { self.new ≡ record self.old { ahead = ahead_with_one self.old.gathers self.old.ahead } }
+    // How it stands once one line more was written, whose text may be short.
+    fn flow(&mut self, short: bool) -> Flow
+        ensures answer { result ≡ flow_behind self.old.gathers self.old.stuck self.new.far self.new.ahead }
+        ensures rest { self.new ≡ record self.old { ahead = ahead_with_one self.old.gathers self.old.ahead; far = self.old.far && short } }
     {
         if self.gathers {
             self.ahead = self.ahead.saturating_add(1);
         }
-        Flow::behind(self.gathers, self.stuck, self.ahead)
+        self.far = self.far && short;
+        Flow::behind(self.gathers, self.stuck, self.far, self.ahead)
     }
 
     /// The writer of a sink that came back.
@@ -103,18 +111,20 @@ impl<W: Write + Drop> Sink for LineSink<W> {
             return Err(SinkFault);
         };
         self.notes = self.notes.saturating_add(1);
-        Ok(self.flow())
+        Ok(self.flow(has_short_text(&note)))
     }
 
     fn flush(&mut self) -> Result<Flow, SinkFault> {
         match self.writer.flush() {
             Ok(()) => {
                 self.ahead = 0;
+                self.far = !self.stuck;
                 self.stuck = false;
                 Ok(Flow::Clear)
             }
             Err(fault) if self.gathers && fault.kind() == ErrorKind::WouldBlock => {
                 self.stuck = true;
+                self.far = false;
                 Ok(Flow::Stuck)
             }
             Err(_) => {
@@ -129,5 +139,16 @@ impl<W: Write + Drop> Sink for LineSink<W> {
             notes: self.notes,
             failed: self.faults > 0,
         }
+    }
+}
+
+// Whether the text of a note is short, so that many of its kind find room beside a slow peer's.
+fn has_short_text(note: &Note) -> bool
+    ensures { result ≡ has_short_text note.now }
+{
+    match note {
+        Note::Next(item) => item.text.as_bytes().len() <= SHORT_TEXT,
+        Note::Completed => true,
+        Note::Failed(text) => text.as_bytes().len() <= SHORT_TEXT,
     }
 }

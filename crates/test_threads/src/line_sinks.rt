@@ -5,10 +5,11 @@ use crate::drainers::note;
 use crate::expectations::{expect_count, expect_that, expect_told};
 use rx_drain::{Flow, LineSink, Sink, SinkFault};
 use rx_heap::Heap;
+use rx_note::Note;
 use rx_proto::Version;
 use std::io::{self, ErrorKind, Write};
 use std::process::Abort;
-use test_kit::Told;
+use test_kit::{Told, item};
 
 // Keeps what is written, and counts the calls. Each flush of one that is torn fails.
 #[derive(Drop)]
@@ -190,9 +191,31 @@ fn sign_of_flow(flow: Result<Flow, SinkFault>) -> u8 {
     }
 }
 
-// What a sink that took so many notes answers then: to a flush at an `f`, and else to the note of a sign.
-fn told_flows(rt: &impl Abort, heap: &Heap, sink: LineSink<Dam>, taken: u32, signs: &[u8]) -> Told {
+// The longest short text, and a byte more.
+const TEXT: [u8; 57] = [b'a'; 57];
+
+// The note of a sign: an item whose text is as long as a short one may be at an `=`, and longer at a `+`.
+fn note_at(rt: &impl Abort, heap: &Heap, sign: u8) -> Note {
+    match sign {
+        b'=' => Note::Next(item(heap, &TEXT[1..]).expect(rt, "an item")),
+        b'+' => Note::Next(item(heap, &TEXT).expect(rt, "an item")),
+        sign => note(rt, heap, sign),
+    }
+}
+
+// What a sink that was flushed so often, and then took so many notes, answers then: to a flush at an `f`, and else to the note of a sign.
+fn told_flows(
+    rt: &impl Abort,
+    heap: &Heap,
+    sink: LineSink<Dam>,
+    flushes: u32,
+    taken: u32,
+    signs: &[u8],
+) -> Told {
     let mut sink = sink;
+    for _ in 0..flushes {
+        let _ = sink.flush();
+    }
     for _ in 0..taken {
         let _ = sink.take(note(rt, heap, b'a'));
     }
@@ -200,7 +223,7 @@ fn told_flows(rt: &impl Abort, heap: &Heap, sink: LineSink<Dam>, taken: u32, sig
     for sign in signs {
         let flow = match *sign {
             b'f' => sink.flush(),
-            sign => sink.take(note(rt, heap, sign)),
+            sign => sink.take(note_at(rt, heap, sign)),
         };
         told.put(sign_of_flow(flow));
     }
@@ -208,17 +231,23 @@ fn told_flows(rt: &impl Abort, heap: &Heap, sink: LineSink<Dam>, taken: u32, sig
 }
 
 // Nothing waits where the writer doesn't gather. Where it does, 48 notes are taken ahead of what went out, unless it is stuck, and
-// behind each eighth of them items are asked for.
+// behind each eighth of them items are asked for. Where two flushes in a row found nothing, 160 are, as long as each is short.
 #[test]
 fn a_line_sink_tells_what_waits(rt: HostRuntime) {
     let heap = unlimited(&rt);
-    for (gathers, closed_for, taken, signs, wanted) in [
-        (false, 0, 0, "af", "cc"),
-        (false, 1, 0, "af", "c!"),
-        (true, 0, 0, "afa", "hch"),
-        (true, 1, 0, "afafa", "hssch"),
-        (true, 0, 6, "aaafaa", "hrhchh"),
-        (true, 0, 47, "aafa", "rsch"),
+    for (gathers, closed_for, flushes, taken, signs, wanted) in [
+        (false, 0, 0, 0, "af", "cc"),
+        (false, 1, 0, 0, "af", "c!"),
+        (true, 0, 0, 0, "afa", "hch"),
+        (true, 1, 0, 0, "afafa", "hssch"),
+        (true, 0, 0, 6, "aaafaa", "hrhchh"),
+        (true, 0, 0, 47, "aafa", "rsch"),
+        (true, 0, 1, 159, "aafa", "rsch"),
+        (true, 1, 2, 47, "aafa", "rsch"),
+        (true, 1, 3, 159, "aa", "rs"),
+        (true, 0, 1, 47, "=a", "rh"),
+        (true, 0, 1, 47, "+a", "rs"),
+        (true, 0, 1, 60, "+fa", "sch"),
     ] {
         let dam = Dam { closed_for };
         let sink = if gathers {
@@ -226,7 +255,7 @@ fn a_line_sink_tells_what_waits(rt: HostRuntime) {
         } else {
             LineSink::new(dam, Version::One)
         };
-        let told = told_flows(&rt, &heap, sink, taken, signs.as_bytes());
+        let told = told_flows(&rt, &heap, sink, flushes, taken, signs.as_bytes());
         expect_told(&rt, told.as_bytes(), wanted, signs);
     }
 }

@@ -1,8 +1,8 @@
 // One letter: the sinks take it, and the ports send what it owes.
 //
-// 4,096 letters at most are taken before a flush, four times as many as the windows of 64 observers let come, so that one
-// write has several windows' notes where more come meanwhile: with 1,024, 64 lines at a time brought 64 subscribers two
-// thirds of the notes, by three times as many writes. There is a bound since a first request may ask for any number.
+// 12,288 letters at most are taken before a flush, somewhat more than 64 sinks take while their lines may be far ahead, so that
+// one write has all that it holds where more come meanwhile: with 4,096, as many items as are taken bring 64 subscribers two
+// thirds of the notes. There is a bound since a first request may ask for any number.
 //
 // At the leave port's Bye all sinks are put away even where a subject is gone, so that nothing of theirs is lost; only what
 // was sent is then cut short.
@@ -25,9 +25,9 @@ use rx_sink::{Sink, put_all_away};
 use std::sync::Wait;
 use std::time::Duration;
 
-// So many letters are taken at most before what waits in the sinks goes out, and the requests that are held back: four times as many
-// as the windows of 64 observers let come at once, so that one write has several windows' notes where more come meanwhile.
-const MOST_LETTERS: u32 = 4096;
+// So many letters are taken at most before what waits in the sinks goes out, and the requests that are held back: somewhat more than
+// 64 sinks take while their lines may be far ahead.
+const MOST_LETTERS: u32 = 12_288;
 
 // Behind so many letters the requests that are held back go, so that their subjects take them while the others are handled: 64 lines
 // at a time so bring 8 subscribers a tenth more. On one core, where a subject sleeps meanwhile, it would be woken for each of them, and

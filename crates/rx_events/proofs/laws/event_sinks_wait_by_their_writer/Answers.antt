@@ -41,7 +41,7 @@ returns g c = record {
         λ none.
             let (plain, nobody) = neither s.gathers (is_reader s.asker) none in
             let free : holds t.asker ≡ false = holds_none t.asker (ap is_reader asker ∙ reader_stays s.asker note _ ∙ nobody) in
-            flows ∙ ap (λ b. held_by b (flow_behind s.gathers t.stuck t.ahead)) free ∙ ap (λ b. flow_behind b t.stuck t.ahead) plain,
+            flows ∙ ap (λ b. held_by b (flow_behind s.gathers t.stuck false t.ahead)) free ∙ ap (λ b. flow_behind b t.stuck false t.ahead) plain,
         ap (λ b. b || is_reader t.asker) stays.gathers ∙ ap (λ b. s.gathers || b) (ap is_reader asker ∙ reader_stays s.asker note _),
       );
   flushed = λ s flow t is.

@@ -14,6 +14,6 @@ stuck_by_its_writer Held s t leaves plain = absurd leaves
 
 pub returns : goal.returns
 returns g c = record {
-  took = λ s note flow t is. (λ plain. is.0 ∙ ap (λ b. flow_behind b s.stuck t.ahead) plain, is.4);
+  took = λ s note flow t is. (λ plain. is.0 ∙ ap (λ b. flow_behind b s.stuck t.far t.ahead) plain, is.4);
   flushed = λ s flow t is. (stuck_by_its_writer flow s t is.0, is.4);
 }
