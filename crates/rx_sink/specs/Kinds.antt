@@ -7,10 +7,10 @@
 --
 -- How a line sink stands: over a writer that gathers what it is given, a take answers Stuck where the sink was found stuck
 -- and not yet found free again, or where more than 48 lines were written since nothing waited, this one counted, and else
--- Ready behind each eighth of them, and Held behind the others; more than 160 it is where the last two flushes found that nothing
--- waits, and each line since has a text of at most 56 bytes. A flush that finds that nothing waits begins the count anew and
--- answers Clear, and one that finds the sink stuck leaves the count. Over any other writer both answer Clear (`flow_behind`,
--- `FlushLeaves` and `line_acts`)
+-- Ready behind each eighth of them, and Held behind the others; more than 160 it is where the last flush found that nothing waits,
+-- the one before did not find it stuck, and each line since has a text of at most 56 bytes. A flush that finds that nothing waits
+-- begins the count anew and answers Clear, and one that finds the sink stuck leaves the count. Over any other writer both answer
+-- Clear (`flow_behind`, `FlushLeaves` and `line_acts`)
 use Rattle.std.specs.Prelude.{◌≡◌, ◌+◌, ◌-◌, ◌^◌, ◌%◌, ◌==◌, ◌<◌, ◌≤◌, ◌↔◌, ◌⊎◌, ◌&&◌, ◌||◌, not, if◌then◌else◌, min, nat_le, nat_lt, IsTrue, ℕ, Bool, true, false, List, [], ◌∷◌, ◌++◌, Option, Some, None, length, vec_len, vec_capacity}
 use Rattle.std.specs.Io.KnownBytes.{Appends}
 use Rattle.std.specs.declared.alloc.Global.{Global}

@@ -1,9 +1,9 @@
 // How many lines are ahead. A sink over a writer that gathers asks for the next items until 48 lines were written since nothing
 // waited, unless it was found stuck. So one write can hold more notes than a window, and what is outside its subject for a slow
-// peer is 64 notes at most. Where two flushes in a row found that nothing waits, and while each line since has a short text, it
-// asks until 160 were: a window's more are what one write of 4,096 bytes holds of notes of 16 bytes. With 48 alone, 64 lines at a
-// time bring 8 subscribers a sixth fewer notes, and as many as are taken a third fewer. It asks behind each eighth line for those
-// of eight, so that they go as one letter, and its flush pays for the rest.
+// peer is 64 notes at most. Where its last flush found that nothing waits, the one before did not find it stuck, and each line
+// since has a short text, it asks until 160 were: a window's more are what one write of 4,096 bytes holds of notes of 16 bytes.
+// With 48 alone, 64 lines at a time bring 8 subscribers a sixth fewer notes, and as many as are taken a third fewer. It asks
+// behind each eighth line for those of eight, so that they go as one letter, and its flush pays for the rest.
 ghost use Rattle.std.specs.Prelude.{◌≡◌};
 ghost use Rattle.rx_sink.specs.Kinds.{flow_behind, most_ahead};
 
@@ -11,7 +11,7 @@ ghost use Rattle.rx_sink.specs.Kinds.{flow_behind, most_ahead};
 // at most.
 const MOST_AHEAD: u32 = 48;
 
-// The same of short lines, where the peer keeps up.
+// The same of lines with short texts, where its peer keeps up.
 const MOST_FAR_AHEAD: u32 = 160;
 
 // Behind so many lines items are asked for in their place: half a window, so that others are on the way meanwhile.

@@ -32,7 +32,8 @@ pub struct LineSink<W: Write + Drop> {
     gathers: bool,
     // A flush found that something waits which can't go out.
     stuck: bool,
-    // Lines may be far ahead: the last two flushes found that nothing waits, and each line since has a short text.
+    // Lines may be far ahead: the last flush found that nothing waits, the one before did not find it stuck, and each line since has a
+    // short text.
     far: bool,
 }
 
@@ -142,7 +143,7 @@ impl<W: Write + Drop> Sink for LineSink<W> {
     }
 }
 
-// Whether the text of a note is short, so that many of its kind find room beside a slow peer's.
+// Whether the text of a note is short: a write holds many of its kind.
 fn has_short_text(note: &Note) -> bool
     ensures { result ≡ has_short_text note.now }
 {

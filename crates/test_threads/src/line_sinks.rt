@@ -231,7 +231,8 @@ fn told_flows(
 }
 
 // Nothing waits where the writer doesn't gather. Where it does, 48 notes are taken ahead of what went out, unless it is stuck, and
-// behind each eighth of them items are asked for. Where two flushes in a row found nothing, 160 are, as long as each is short.
+// behind each eighth of them items are asked for. Behind a flush that found nothing, unless the one before found it stuck, 160 are, as
+// long as each is short.
 #[test]
 fn a_line_sink_tells_what_waits(rt: HostRuntime) {
     let heap = unlimited(&rt);

@@ -21,7 +21,7 @@ use std::io::{ErrorKind, Write};
 use std::time::{Clock, Duration};
 
 /// How many bytes wait for a peer at most: 64 notes of the greatest length, in the second version, a terminal, and the first
-/// line.
+/// line. (Where more notes may wait, 160 of them are short.)
 pub const MOST_WAITING: usize = 68_378;
 
 /// From so many bytes on, what is written goes out at once where nothing waits before it; and no write has more. A socket has
