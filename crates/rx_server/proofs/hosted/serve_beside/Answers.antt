@@ -1,9 +1,11 @@
 -- The face has the last desk, and the crew those before it.
-use Rattle.std.proofs.Common.{◌∷◌, ◌++◌, [], Some, refl, sym, inl, arith}
+use Rattle.std.proofs.Common.{◌≡◌, ◌⊎◌, ◌∙◌, ◌∷◌, ◌++◌, [], Bool, true, false, ℕ, Some, Result, Err, MatchBool, length, refl, sym, ap, inl, inr, arith}
 use Rattle.std.proofs.lemmas.List.Elements.{All-pop}
 use Rattle.std.specs.Arc.{arc_value}
 use Rattle.rx_workers.proofs.Crews.{All-first, kept_same}
 use Rattle.rx_workers.specs.Crews.{IsFor}
+use Rattle.rx_workers.specs.declared.crew.serve_fault.ServeFault.{ServeFault}
+use Rattle.rx_workers.specs.declared.crew.serve_fault.ServeFault.TheVariants.{Memory, Thread}
 use Rattle.rx_server.proofs.Beside.{face-keeps, kept-last}
 use Rattle.rx_server.proofs.hosted.serve_beside.Goals as goal
 
@@ -54,7 +56,33 @@ returns-in-Ok-clause-kept g c =
     kept-last c.args.desks.now.items c.pop.new.self.items c.serve_connections-served.new.desks.items (c.serve_connections-served.new.desks.items ++ c.end.result ∷ []) c.in-Some.desk c.end.result
     c.in-Some.ensures.items refl c.serve_connections-served.ensures.desks face
 
--- there was no face
+-- there was no face, by what was wanting
+without_face : (has_memory : Bool) (fault : ServeFault) (place count : ℕ) (result : Result (Unit {0}) ServeFault) → result ≡ Err fault → place ≡ count
+    → MatchBool has_memory (fault ≡ Thread place) (fault ≡ Memory) → (result ≡ Err Memory) ⊎ (result ≡ Err (Thread count))
+without_face true fault place count result failed same by = inr (failed ∙ ap Err (by ∙ ap Thread same))
+without_face false fault place count result failed same by = inl (failed ∙ ap Err by)
+
+pub returns-in-Err-clause-served : goal.returns-in-Err-clause-served
+returns-in-Err-clause-served g c =
+    let desks = c.pop.new.self.items in
+    let place : c.len.result ≡ length desks = omega (arith, c.len.ensures, c.pop.new.self.ok.0) in
+    record {
+      desks = desks;
+      last = c.in-Some.desk;
+      parts = sym c.in-Some.ensures.items;
+      left = desks;
+      back = c.in-Err.back.desk;
+      parts_after = refl;
+      how = inr (
+        record {
+          fault = without_face c.in-Err.back.has_memory c.fault_of-fault.result c.len.result _ _ refl place c.fault_of-fault.ensures;
+          untouched = refl;
+          kept = c.in-Err.ensures;
+        },
+        refl,
+      );
+    }
+
 pub returns-in-Err-clause-kept : goal.returns-in-Err-clause-kept
 returns-in-Err-clause-kept g c =
     kept-last c.args.desks.now.items c.pop.new.self.items c.pop.new.self.items (c.pop.new.self.items ++ c.in-Err.back.desk ∷ []) c.in-Some.desk c.in-Err.back.desk
